@@ -1,10 +1,17 @@
 #!/usr/bin/env bash
-# Explores 20,000 runs of some 245 turns, on one processor, beside a plain Rust explorer that does the same with nothing
-# proved; then 65,536 on all processors; then with the audit of every turn, fewer runs; and a script of 64 tasks in a pool of
-# 4,096 frames beside one of 4 tasks, a turn each. Says whether both wrote the same lines. Needs cargo, python3 and taskset.
-# How much faster all processors are is told by the clock, so it needs a machine with nothing else to do: where others had
-# work when it began, it says so. Beside it stands what the machine gives: how much more as many explorations do at once, each
-# on a processor of its own, than one does alone (processors that share a core, or that other guests share, do less than so many).
+# Explores runs of a script beside a plain Rust explorer that does the same with nothing proved, and
+# prints whether both wrote the same lines. Needs cargo, python3 and taskset. It measures
+#
+# - 20,000 runs of some 245 turns, on one processor;
+# - 65,536 runs on all processors;
+# - fewer runs with the audit of every turn;
+# - a turn of a script of 64 tasks in a pool of 4,096 frames, and a turn of one of 4 tasks.
+#
+# How much faster all processors are is measured by the clock, so it needs a machine with nothing else
+# to do. If others had work when it began, the output says so. Beside it stands what the machine
+# gives. That is how much more as many explorations do at once, each on a processor of its own, than
+# one does alone. Processors that share a core, or that other guests share, do less than as many
+# separate ones.
 set -euo pipefail
 source "$(dirname "${BASH_SOURCE[0]}")/needs.sh" python3 taskset
 PYTHONPATH=bench exec python3 -B - <<'P'
@@ -16,7 +23,7 @@ import sys
 import tempfile
 import time
 from pathlib import Path
-from measure import PLAIN, PROVED, in_turn, prepare
+from measure import PLAIN, PROVED, in_turn, prepare, script_of_tasks
 
 PROCESSORS = sorted(os.sched_getaffinity(0))
 ROUNDS = 9
@@ -30,17 +37,6 @@ def alone_on(processor):
 ONE = alone_on(PROCESSORS[0])
 OURS = [PROVED[0], "explore"]
 THEIRS = [str(PLAIN / "explore")]
-
-
-def script(frames, tasks, rounds):
-    """Tasks that map a file, store and load, punch, and allocate, each some rounds."""
-    lines = [f"pool {frames} 4 16 {tasks}"]
-    for at in range(rounds):
-        for task in range(1, tasks + 1):
-            file = task % 4
-            calls = [f"map {file} {at} 2", f"store {2 * at} 5", f"load {2 * at}", f"punch {file} {at} 1"]
-            lines += [f"begin {task} {call}" for call in calls]
-    return "\n".join(lines) + "\n"
 
 
 def lines_of(words, path):
@@ -97,7 +93,7 @@ def turns_of(text):
 prepare()
 with tempfile.TemporaryDirectory() as folder:
     small = Path(folder) / "small"
-    small.write_text(script(8, 4, 2))
+    small.write_text(script_of_tasks(8, 4, 2))
     options = ["--runs", "20000", "--deny", "50", "--kill", "1"]
     text = lines_of([*OURS, *options], small)
     if text != lines_of([*THEIRS, *options], small):
@@ -112,7 +108,7 @@ with tempfile.TemporaryDirectory() as folder:
     bare, audited = wall([*ONE, *OURS, *few], small), wall([*ONE, *OURS, *few, "--audit"], small)
     print(f"2,000 runs with the audit of every turn: {audited:.3f} s, without {bare:.3f} s, on one processor")
     large = Path(folder) / "large"
-    large.write_text(script(4096, 64, 2))
+    large.write_text(script_of_tasks(4096, 64, 2))
     cost = {}
     for name, path, runs in (("4 tasks, 8 frames", small, 5000), ("64 tasks, 4,096 frames", large, 300)):
         words = [*ONE, *OURS, "--runs", str(runs)]

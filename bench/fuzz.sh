@@ -2,7 +2,7 @@
 # Gives traces that are made by chance, and damaged ones, to `./hugepool replay` and to a plain Rust program that replays traces
 # with nothing proved; and compares what they write, what they complain of, and their statuses, for so many seconds. Whoever
 # changes a row of the machine, or the text of a trace, runs it. Behind the number of a wrong line ours has to say in one more line
-# what is wrong with it; the plain one doesn't, and what ours says there isn't judged.
+# what is wrong with it, and may name `hugepool format` behind that; the plain one doesn't, and what ours says there isn't judged.
 #
 #   bench/fuzz.sh SECONDS [SEED]
 #

@@ -1,11 +1,11 @@
 #!/usr/bin/env bash
-# Times events through libhugepool, one by one and in slices of 1,000, beside those of the plain Rust pool in the same process: calls of all
-# operations by 8 and by 64 tasks, and loads and stores by so many. Nanoseconds an event, best of rounds in turn, reading left out; then
-# the ratios of both to the plain pool.
+# Replays events through libhugepool beside a plain Rust pool in the same process: calls of all
+# operations by 8 and by 64 tasks, and loads and stores by as many. The library gets the events one by
+# one, and in slices of 1,000. Prints nanoseconds for an event, without the reading, the best of
+# several rounds in turn, and the ratio of both to the plain pool.
 #
-#   bench/library.sh [ROUNDS]      (30 where none is said)
-#
-# Needs cargo, cc, ar and the Rattle toolchain.
+# `bench/library.sh [ROUNDS]` sets the number of rounds (30 by default). Needs cargo, cc, ar and the
+# Rattle toolchain.
 set -euo pipefail
 source "$(dirname "${BASH_SOURCE[0]}")/needs.sh" cc ar
 rounds=${1-30}

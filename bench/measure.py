@@ -28,6 +28,17 @@ def prepare():
         sys.exit("bench: cargo did not build the plain programs")
 
 
+def script_of_tasks(frames, tasks, rounds):
+    """Tasks that map a file, store and load, and punch, each some rounds."""
+    lines = [f"pool {frames} 4 16 {tasks}"]
+    for at in range(rounds):
+        for task in range(1, tasks + 1):
+            file = task % 4
+            calls = [f"map {file} {at} 2", f"store {2 * at} 5", f"load {2 * at}", f"punch {file} {at} 1"]
+            lines += [f"begin {task} {call}" for call in calls]
+    return "\n".join(lines) + "\n"
+
+
 def processor_time(words, trace):
     """The seconds of processor time, user and system, of one run."""
     streams = [(os.POSIX_SPAWN_OPEN, 0, trace, os.O_RDONLY, 0), (os.POSIX_SPAWN_OPEN, 1, os.devnull, os.O_WRONLY, 0)]

@@ -1,12 +1,16 @@
 #!/usr/bin/env bash
-# Threads make calls on a running pool as fast as they can (crates/hp_pool_bench); and so do those of a plain Rust program,
-# over a Mutex, a Condvar and the same journal, with nothing proved. Tells holds a second of both by wall time, with 1, 2
-# and 4 threads, on a file each and all on one file; what a task that waits uses of a processor; what the journal costs;
-# and the peak memory of short and long runs whose journal is cut. A hold is one that changed the pool: an entry.
+# Threads make calls on a running pool as fast as they can (crates/hp_pool_bench). Those of a plain
+# Rust program do so, too, over a Mutex, a Condvar and the same journal, with nothing proved. A hold
+# is one that changed the pool: an entry. The bench prints
 #
-#   bench/pool.sh [ENTRIES]      (of the longest run; 10000000 where none is said)
+# - holds a second of both by wall time, with 1, 2 and 4 threads, on a file each and all on one file,
+#   and with 64 on one file;
+# - how much processor time a task that waits uses;
+# - what the journal costs;
+# - the peak memory of short and long runs whose journal is cut.
 #
-# Needs cargo, python3 and the Rattle toolchain.
+# `bench/pool.sh [ENTRIES]` sets the entries of the longest run (10,000,000 by default). Needs cargo,
+# python3 and the Rattle toolchain.
 set -euo pipefail
 source "$(dirname "${BASH_SOURCE[0]}")/needs.sh" python3
 PYTHONPATH=bench exec python3 -B - "$@" <<'P'
@@ -66,14 +70,15 @@ def speeds():
     """Holds a second, by threads and files."""
     print(f"holds a second by the clock, median of {ROUNDS} rounds in turn; cut every {PART * TURN} entries")
     print(f"{'threads':>7} {'files':8} {'hugepool':>10} {'plain':>10} {'ratio':>6}   of processor time: ratio")
-    for threads in (1, 2, 4):
-        for files, told in ("own", "one each"), ("one", "one"):
-            entries, (ours, plain) = medians([PROVED, PLAIN_POOL], words(threads, files, TURNS // PART, PART))
-            print(
-                f"{threads:7} {told:8} {entries / ours[0]:10.0f} {entries / plain[0]:10.0f} {ours[0] / plain[0]:6.2f}"
-                f"   {ours[1] / plain[1]:24.2f}",
-                flush=True,
-            )
+    # (a pool has no more than 16 files)
+    for threads, files in *((it, files) for it in (1, 2, 4) for files in ("own", "one")), (64, "one"):
+        entries, (ours, plain) = medians([PROVED, PLAIN_POOL], words(threads, files, TURNS // PART, PART))
+        told = {"own": "one each", "one": "one"}[files]
+        print(
+            f"{threads:7} {told:8} {entries / ours[0]:10.0f} {entries / plain[0]:10.0f} {ours[0] / plain[0]:6.2f}"
+            f"   {ours[1] / plain[1]:24.2f}",
+            flush=True,
+        )
 
 
 def waiting():

@@ -1,6 +1,7 @@
 #!/usr/bin/env bash
-# Replays 1,000,000 lines `step 1`, each of which is refused, and a plain Rust loop that only parses the same file.
-# Prints the processor time of each, and the peak memory on that file and on one a tenth as long. Needs cargo and python3.
+# Replays 1,000,000 lines `step 1`, each of which is refused, beside a plain Rust loop that only
+# parses the same file. Prints the processor time of each, and the peak memory on that file and on one
+# a tenth as long. Needs cargo and python3.
 set -euo pipefail
 source "$(dirname "${BASH_SOURCE[0]}")/needs.sh" python3
 PYTHONPATH=bench exec python3 -B - <<'P'

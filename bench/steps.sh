@@ -1,8 +1,9 @@
 #!/usr/bin/env bash
-# Replays traces that are made here, each of one way to use a pool, in two sizes; and so does a plain Rust
-# program that makes the same steps with maps and balanced trees, and with nothing proved. Says whether both wrote the
-# same, and prints a table: processor time an event of each, the ratio of the two, and the growth of ours from the
-# smaller size to the larger. Then the peak memory of both on the largest pool. Needs cargo and python3.
+# Replays traces that are made here, each of one way to use a pool, in two sizes. A plain Rust program
+# makes the same steps with maps and balanced trees, and with nothing proved. Prints whether both
+# wrote the same, and a table. It has the processor time for an event of each, their ratio, and how
+# our time grows from the smaller size to the larger. Then prints the peak memory of both on the
+# largest pool. Needs cargo and python3.
 set -euo pipefail
 source "$(dirname "${BASH_SOURCE[0]}")/needs.sh" python3
 PYTHONPATH=bench exec python3 -B - "$@" <<'P'

@@ -110,14 +110,27 @@ def fault(room: Path, wrong: Wrong, theirs: Path) -> str | None:
     return None
 
 
+# a program that names another command where it should say what is wrong with a line
+HINTS = """#!/bin/sh
+"{plain}"
+status=$?
+[ "$status" = 0 ] || echo "hugepool: hugepool format accepts this line, and prints a trace that this command accepts" >&2
+exit "$status"
+"""
+
+
 def without_reasons(room: Path) -> list[str]:
-    """What is wrong with the run in which ours is the plain program, which doesn't say what is wrong with a line."""
+    """What is wrong with the runs in which ours is the plain program, which doesn't say what is wrong with a line, without and with a hint."""
     room.mkdir()
-    plain = PLAIN / "target" / "release" / "simulate"
-    words = [FUZZ, str(SECONDS), SEED, room, plain, "--", plain]
-    ran = subprocess.run(words, stdout=subprocess.PIPE, text=True, check=False)
-    is_told = ran.returncode == 1 and "ours gives no reason in one line" in ran.stdout
-    return [] if is_told else [f"a program that gives no reasons: status {ran.returncode}, and told is {ran.stdout!r}"]
+    plain, hints = PLAIN / "target" / "release" / "simulate", room / "hints"
+    hints.write_text(HINTS.format(plain=plain), encoding="utf-8")
+    hints.chmod(0o755)
+    faults = []
+    for ours in (plain, hints):
+        ran = subprocess.run([FUZZ, str(SECONDS), SEED, room, ours, "--", plain], stdout=subprocess.PIPE, text=True, check=False)
+        if ran.returncode != 1 or "ours gives no reason in one line" not in ran.stdout:
+            faults.append(f"{ours.name}, which gives no reasons: status {ran.returncode}, and told is {ran.stdout!r}")
+    return faults
 
 
 def statuses() -> list[str]:

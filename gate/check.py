@@ -9,8 +9,8 @@ usage: ./check [STEP] [..]
                      the mutants: wrong bodies that the prover must refuse. With no crate named, those of each crate that changed, or
                      that stands on one that did, since they were refused; where few are due, those of some other crates, too
                      (--all: all); then faulty mutants that must be reported, and
-                     whether docs/INDEX.md, pictures, numbers and lists of files are what scripts write, and docs/PROVED.md names the
-                     calls and clauses that there are.
+                     whether docs/INDEX.md, pictures, the page of draw --html, numbers and lists of files are what scripts write, and
+                     docs/PROVED.md names the calls and clauses that there are.
                      Of crates that are named all mutants; --each prints a line for each
   ./check examples   the output of the traces of examples/, which no single output shows, of each command's help, and of each wrong
                      field of a line; a long race, and its trace; that the programs compiled without proof print the same, that a
@@ -58,6 +58,7 @@ SCRIPTS = {
         "gate/test_edits.py",
         "gate/index.py",
         "gate/pictures.py",
+        "gate/page.py",
         "gate/numbers.py",
         "gate/places.py",
         "gate/proved.py",
@@ -96,6 +97,7 @@ SCRIPTS = {
         "gate/documents.py",
         "gate/index.py",
         "gate/pictures.py",
+        "gate/page.py",
         "gate/numbers.py",
         "gate/places.py",
         "gate/proved.py",

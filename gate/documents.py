@@ -5,7 +5,8 @@ A document is a file *.md outside of the crates. Looked at are the words between
 a path has to be the end of one in the repository; a link has to lead to a file and a heading; `./hugepool` has to have the command and
 its options, `./check` the step; and of a call `hp_frames::Bank::take` or `hp_frames::Bank::{take, free}` each name has to be declared in
 that crate. In a table whose rows begin with crates, the calls of the last column leave the crate out: they have to be declared in one of
-the row's crates. The blocks of docs/MACHINE.md have to stand in the specs of the machine, but for white space.
+the row's crates. The blocks of docs/MACHINE.md have to stand in the specs of the machine, but for white space; and its table of phases in Linux
+has to be that of hp_words::linux_name.
 """
 from __future__ import annotations
 
@@ -162,6 +163,18 @@ def quotation_faults(text: str) -> Iterator[str]:
         yield from (f"no spec has {it.strip()[:60]}" for it in pieces if flat(it) not in said)
 
 
+def phase_names(text: str) -> list[tuple[str, str]]:
+    """The rows of the table of phases in Linux, as the code spells them."""
+    table = text.partition("### The phases in Linux")[2].partition("\n#")[0]
+    return [(phase, names.replace("`", "")) for phase, names in re.findall(r"^\| ([a-z]+) \| (.*`) \|$", table, re.M)]
+
+
+def phases_in_code() -> list[tuple[str, str]]:
+    """The arms of hp_words::linux_name."""
+    arms = re.findall(r'Phase::(\w+) => "([^"]+)"', (TOP / "crates" / "hp_words" / "src" / "linux.rt").read_text(encoding="utf-8"))
+    return [(phase.lower(), name) for phase, name in arms]
+
+
 def unlisted(text: str) -> set[str]:
     """The crates that have no row in docs/ARCHITECTURE.md."""
     return set(crates_of(TOP)) - set(re.findall(r"^\| [^|]*\| `(\w+)` \|", text, re.M))
@@ -190,6 +203,9 @@ def tries() -> Iterator[tuple[str, bool]]:
     yield f"docs/MACHINE.md quotes the specs: {'; '.join(quotation_faults(machine))}", not any(quotation_faults(machine))
     for old, new in (("≤ s.resv)", "< s.resv)"), ("≡ actives s", "≡ actives n")):
         yield f"in a quotation {new!r} is noticed", len(list(quotation_faults(machine.replace(old, new)))) == 1
+    named = phase_names(machine)
+    yield "docs/MACHINE.md has linux_name's table", named == phases_in_code() != []
+    yield "another name of a phase is noticed", phase_names(machine.replace("| `region_chg` |", "| `region_add` |")) != named
     architecture = (TOP / "docs" / "ARCHITECTURE.md").read_text(encoding="utf-8")
     yield f"docs/ARCHITECTURE.md lists all crates: {unlisted(architecture)}", not unlisted(architecture)
     yield "one that it doesn't list is noticed", unlisted(architecture.replace("| `hp_laws` |", "| |")) == {"hp_laws"}

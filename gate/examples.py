@@ -4,11 +4,12 @@
 Each trace of examples/ and of the folders in it is replayed: NAME.out has the output, NAME.err and NAME.status the complaint and the
 status, where they aren't nothing and 0. NAME.explained is what is written where the trace is explained, and docs/pictures/NAME.svg what
 is drawn of it (pictures.py makes the others there).
+The lines of JSON of each trace say what its rows say (objects.py).
 Each `$` line of docs/TRACES.md is run by a shell, and has to print the lines below it. All these, and those of
 examples/commands/, are rows (rows.py), and each row has to notice changes of what it compares.
 Each script is explored by the words behind each `#` of the file NAME.lines beside it, and its lines are compared with those
 below the words; and the schedule of each first run is replayed, and ends with the counts of that run's line. Each script is
-raced some times in threads, too, whole and in parts: every race has to be closed.
+raced some times in threads, too, whole, in parts, and where steps are denied and tasks killed: every race has to be closed.
 """
 from __future__ import annotations
 
@@ -20,6 +21,7 @@ import tempfile
 from pathlib import Path
 from typing import Iterator
 
+import objects
 import pictures
 import rows
 from programs import Ran, built, report, run
@@ -34,6 +36,8 @@ SHELL = Path("/bin/bash")
 RACES = 20
 # how the journal of a race is cut, or that it isn't
 CUTS = ("", *(f" --cut {calls}" for calls in range(1, 7)))
+# by which chances steps are denied and tasks killed in some of the races
+CHANCES = " --deny 50 --kill 200"
 RACED = re.compile(r"run \d+ closed entries \d+ free \d+ resv \d+")
 
 
@@ -106,9 +110,13 @@ def script_tries(program: Path, name: str) -> Iterator[tuple[str, bool]]:
         replayed = output(program, "replay", output(program, f"schedule{options}", script))
         counts = lines.split("\n", 1)[0].partition(" free ")[2]
         yield f"{name}: {words}: the replay of its first run ends with {counts}", f"\nfree {counts} calls 0" in replayed
-    for cut in CUTS:
-        fault = race_fault(run(program, f"race --times {RACES}{cut}", script))
-        yield f"{name}: race{cut}: {fault}", not fault
+    for options in (*CUTS, CHANCES, f"{CHANCES} --cut 2"):
+        ran = run(program, f"race --times {RACES}{options}", script)
+        if script.startswith("script "):
+            yield f"{name}: race{options} takes no script whose calls wait", (ran.status, ran.out) == (1, "")
+            continue
+        fault = race_fault(ran)
+        yield f"{name}: race{options}: {fault}", not fault
 
 
 def race_fault(ran: Ran) -> str | None:
@@ -138,6 +146,9 @@ def tries(program: Path, room: Path) -> Iterator[tuple[str, bool]]:
         yield f"there are rows for {runs.name}", bool(several)
         for name, row in several:
             yield from rows.tries(runs, name, row)
+    for name in sorted(names(".trace")):
+        if not text(name, ".status").strip("0\n"):
+            yield from objects.tries(program, name, text(name, ".trace"))
     yield "pictures are drawn", bool(drawings())
     for name in sorted(names(".script")):
         yield from script_tries(program, name)

@@ -34,7 +34,11 @@ MOST = 20_000
 # the number by which the library tells of each thread, and refuses nothing
 TELL_THREADS = -1
 # what hugepool ends with and says, by the letter of the fault
-FAILED = {it: (1, f"hugepool: {what}\n") for it, what in {"m": "out of memory", "r": "reading failed", "w": "writing failed"}.items()}
+FAILED = {
+    "m": (1, "hugepool: out of memory\n"),
+    "r": (1, "hugepool: reading failed\nhugepool: Input/output error (os error 5)\n"),
+    "w": (1, "hugepool: writing failed\nhugepool: No space left on device (os error 28)\n"),
+}
 WORKLOADS = [
     *("readback", "shared", "truncate", "alloc-instantiate-race", "chunk-overcommit", "noresv-preserve-resv-page"),
     *("noresv-regarded-as-resv", "truncate_reserve_wraparound", "fallocate_basic", "fallocate_align", "counters"),
@@ -204,6 +208,10 @@ def crowd(tasks: int) -> str:
     return "".join(f"{line}\n" for line in [*lines, "begin 1 trunc 0 2", "begin 2 punch 0 0 1"])
 
 
+# what a person writes: comments, repeated steps, and steps up to a phase
+LOOSE = "# by hand\n\npool 4 1 4 1\n begin 1 map 0 0 1\nstep 1 *3\nstep 1 until ended\nbegin 1 store 0 7\nstep 1 until taken\n"
+
+
 def cases() -> list[Case]:
     """What is run."""
     plain = plain_words
@@ -216,8 +224,12 @@ def cases() -> list[Case]:
     return [
         *(run(trace) for trace in traces),
         *(plain(f"work {name}", "") for name in WORKLOADS),
+        plain("work shared --trace", ""),
         *(plain(f"work {name} --on pool", "")._replace(starts=True) for name in ("shared", "alloc-instantiate-race")),
         *(plain(words, wide) for words in ("explain", "draw", "check", "--help", "replay --help", "nothing", "replay --all")),
+        *(plain(words, wide) for words in ("replay --json", "explain --json --tasks 7,12 --lines 2..9", "explain --json --linux", "draw --html")),
+        *(plain(f"explain {words}", wide) for words in ("--compact --linux --tasks 7,12 --lines 2..9", "--lines 4..3", "--tasks 65")),
+        plain("draw", example("quota-goes-to-the-map.trace")),
         plain("replay", example("a-bad-line.trace")),
         explored("explore --seed 7 --runs 3 --deny 100 --kill 10", script),
         *(explored(f"explore --runs 2{audit}", crowd(6)) for audit in ("", " --audit")),
@@ -228,6 +240,9 @@ def cases() -> list[Case]:
         plain("minimize --answer 1:2=beyond", example("truncate-overtakes-a-store.trace")),
         raced("race --times 2", script)._replace(lines=2),
         raced("race --times 1 --cut 2", script),
+        raced("race --times 1 --deny 100 --kill 200", script),
+        explored("explore --summary --runs 3 --deny 100 --kill 10", script),
+        *(plain(words, LOOSE) for words in ("format", "step")),
         raced("race --times 1", crowd(12)),
         *stream_cases(),
     ]
@@ -238,11 +253,15 @@ def stream_cases() -> list[Case]:
     calls = "begin 1 map 0 0 1\nbegin 1 unmap 0\n"
     trace, script, short = "pool 4 1 4 2\n" + "step 1\n" * 2_000, "pool 4 1 4 2\n" + calls * 400, "pool 4 1 4 2\n" + calls * 10
     found = [plain_words(words, trace) for words in ("replay", "explain", "draw", "check")]
-    found += [plain_words(words, script) for words in ("schedule", "explore --runs 600")]
+    found += [plain_words(words, trace) for words in ("explain --compact --linux --tasks 1 --lines 2..1500", "explain --json", "replay --json", "draw --html")]
+    found += [plain_words(words, script) for words in ("schedule", "explore --runs 600", "explore --summary --runs 60")]
+    found += [plain_words("format", trace)]
     found += [plain_words("minimize --final resv=0", trace)]
     # (a race writes each line by itself)
     found += [Case("race --times 3", short, is_race, is_race_front), Case("race --trace", short, begins_alike, begins_alike)]
     writes = [plain_words(words, "")._replace(fails=("WRITE",)) for words in ("work readback", "--help")]
+    # (each line is answered before the next is read, so a read that fails behind the last leaves the output whole)
+    writes += [plain_words("step", short)._replace(fails=("WRITE",))]
     # (which run was found is said before the last write)
     reads = [plain_words("find --final resv=1", script)._replace(fails=("READ",))]
     return [*(it._replace(fails=("READ", "WRITE")) for it in found), *writes, *reads]

@@ -1,5 +1,5 @@
 #!/usr/bin/env python3
-"""Writes docs/INDEX.md: of each phase its row, the function that does it, the lemma that says what it writes, and its edits.
+"""Writes docs/INDEX.md: of each phase its row, the function that does it, the lemma that says what it writes, and its mutants.
 
 usage: gate/index.py           says whether docs/INDEX.md is what it would write
        gate/index.py --write   writes it
@@ -12,6 +12,7 @@ import sys
 import source
 from scratch import TOP
 from edit import mutants_of
+from written import write_or_compare
 
 INDEX = TOP / "docs" / "INDEX.md"
 CRATES = TOP / "crates"
@@ -23,10 +24,15 @@ STEPS = {
 DID = {"exit": "UnmapDid"}
 HEAD = """# Where each phase is
 
-One line a phase: its row (in `crates/hp_machine/specs/`), the function that does it (in `crates/hp_fault/src/`
-or `crates/hp_remove/src/`), the lemma of which a clause says what the row writes (in `crates/hp_laws/proofs/`; that
-each write keeps the invariant is in `Fits.antt` there), and the edits that change that function, each of which the
-prover has to refuse (in the crate's `must-fail/` or `edits/`). Written by `gate/index.py --write`.
+One line for each phase: its row, its function, the lemma that says what the row writes, and its
+mutants. Where they are:
+
+- rows: `crates/hp_machine/specs/`;
+- functions: `crates/hp_fault/src/` or `crates/hp_remove/src/`;
+- lemmas: `crates/hp_laws/proofs/`. `Fits.antt` there proves that each write keeps the invariant;
+- mutants: `must-fail/` or `edits/` of the function's crate. The prover must reject each.
+
+`gate/index.py --write` writes this page.
 """
 
 
@@ -81,7 +87,7 @@ def index() -> str:
     out = [HEAD]
     for operation, crate in STEPS.items():
         rows = (CRATES / "hp_machine" / "specs" / f"{operation.capitalize()}Rows.antt").read_text(encoding="utf-8")
-        out.append(f"\n## {operation.capitalize()}\n\n| Phase | Row | Function | Lemma | Edits |\n|---|---|---|---|---|\n")
+        out.append(f"\n## {operation.capitalize()}\n\n| Phase | Row | Function | Lemma | Mutants |\n|---|---|---|---|---|\n")
         for phase in phases(operation):
             name = function_of(operation, phase)
             own = edits[crate].get(source.Function((operation,), None, False, name), [])
@@ -91,17 +97,5 @@ def index() -> str:
     return "".join(out)
 
 
-def main(words: list[str]) -> int:
-    text = index()
-    if words == ["--write"]:
-        INDEX.write_text(text, encoding="utf-8")
-        return 0
-    is_same = INDEX.is_file() and INDEX.read_text(encoding="utf-8") == text
-    if not is_same:
-        print("  docs/INDEX.md isn't what the sources say: gate/index.py --write")
-    print(f"index: {int(is_same)} passed, {int(not is_same)} failed")
-    return 0 if is_same else 1
-
-
 if __name__ == "__main__":
-    sys.exit(main(sys.argv[1:]))
+    sys.exit(write_or_compare("index", {INDEX: index()}, sys.argv[1:]))

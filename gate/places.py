@@ -12,6 +12,7 @@ from functools import cache
 from typing import Callable, Iterator
 
 from index import STEPS, phases
+from page import MODULES
 from scratch import TOP, crates_of
 
 PAGE = TOP / "docs" / "ARCHITECTURE.md"
@@ -20,6 +21,8 @@ BEGIN, END = "<!-- places: written by gate/places.py --write -->\n", "<!-- end o
 ROOTS = ("crates", "gate", "bench", "conformance", "library")
 KINDS = {".rt": "//", ".rs": "//", ".js": "//", ".c": "//", ".h": "//", ".antt": "--", ".py": "#"}
 LEFT_OUT = {"proofs", "edits", "must-fail", "must-not-compile", "out", "target"}
+# made of other files by a script
+MADE = {f"crates/hp_page/src/{it}.rt" for it in MODULES}
 TESTS = re.compile(r"crates/hp_\w*tests/|(?:^|/)test_\w+\.py$|/examples/|page/clicks")
 # a file lists the operations if it names so many of the nine; the phases if it names so many of each of so many operations'
 MOST_OPERATIONS, MOST_PHASES, MOST_WITH_PHASES = 6, 0.8, 5
@@ -30,7 +33,8 @@ def files() -> dict[str, str]:
     """The files, with their texts without comments."""
     found = {}
     for file in sorted(it for root in ROOTS for it in (TOP / root).rglob("*")):
-        if file.suffix in KINDS and file.is_file() and not LEFT_OUT & {*file.relative_to(TOP).parts}:
+        is_source = file.suffix in KINDS and not LEFT_OUT & {*file.relative_to(TOP).parts} and str(file.relative_to(TOP)) not in MADE
+        if is_source and file.is_file():
             text = file.read_text(encoding="utf-8")
             found[str(file.relative_to(TOP))] = re.sub(rf"(?:^|(?<= )) *{KINDS[file.suffix]} .*|^ *///? .*", "", text, flags=re.M)
     return found

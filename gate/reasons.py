@@ -10,7 +10,7 @@ HEADER = "pool 1 1 1 1"
 MOST, MOST_WORD = 2**32 - 1, 2**64 - 1
 MOST_EVENTS = 1_000_000
 # what there is of a pool, and the least and the most of it
-SIZES = [("frames", 1, 4096), ("files", 1, 16), ("slots", 1, 64), ("tasks", 1, 64), ("pages of a quota", 0, 65_536)]
+SIZES = [("frames", 1, 4096), ("files", 1, 16), ("slots", 1, 64), ("tasks", 1, 64), ("quota pages", 0, 65_536)]
 # each kind of line, and what it is called
 LINES = {
     "step 1": "a step",
@@ -32,31 +32,39 @@ LINES = {
 # lines behind a header, and headers, and what is to be said of each
 SAID = [
     ("begin 1 map 0 0 4294967296", "4294967296 is above 4294967295"),
-    ("step 1\r", "a line ends with a carriage return"),
-    ("begin 1 alloc 0", "there are 4 words, an alloc has 6"),
+    ("step 1\r", "the line ends with a carriage return"),
+    ("begin 1 alloc 0", "the line has 4 words; an alloc has 6"),
     ("begin 1 store 0 18446744073709551616", "18446744073709551616 is above 18446744073709551615"),
-    ("begin 1", "there are 2 words, a begin has 3 or more"),
-    ("begin one exit", "one is no number"),
-    ("begin 1 mmap 0 0 1", "no call is called mmap"),
-    ("stop 1", "no event is called stop"),
+    ("begin 1", "the line has 2 words; a begin has 3 or more"),
+    ("begin one exit", "one is not a number"),
+    ("begin 1 mmap 0 0 1", "mmap is not a call"),
+    ("stop 1", "stop is not an event"),
     ("step 01", "01 begins with a zero"),
-    ("step -1", "-1 is no number"),
-    ("step  1", "one space parts two words, and none stands elsewhere"),
-    ("step 1 ", "one space parts two words, and none stands elsewhere"),
-    ("", "a line is empty"),
-    ("step\t1", "a byte 9 stands in no line"),
-    ("begin 1 map 0 0", "there are 5 words, a map has 6"),
+    ("step -1", "-1 is not a number"),
+    ("step  1", "words must be separated by exactly one space, with no other spaces"),
+    ("step 1 ", "words must be separated by exactly one space, with no other spaces"),
+    ("", "the line is empty"),
+    ("step\t1", "byte 9 is not allowed in a line"),
+    ("begin 1 map 0 0", "the line has 5 words; a map has 6"),
+    ("after 1", "after is allowed only in a script whose header begins with script"),
+    ("after 1 2", "the line has 3 words; an after has 2"),
+    ("after one", "one is not a number"),
 ]
+# those lines of them that the loose form has
+LOOSE = {"step 1\r", "step  1", "step 1 ", "", "step\t1"}
+FORMAT = "hugepool: hugepool format accepts this line, and prints a trace that this command accepts\n"
 SAID_OF_HEADERS = [
-    ("pool 0 1 1 1", "there are 0 frames, a pool has 1 to 4096"),
-    ("pool 4 1 4 1 65537", "there are 65537 pages of a quota, a pool has 0 to 65536"),
-    ("step 1", "a header begins with pool, and not with step"),
-    ("pool 4 1 4 x", "x is no number"),
+    ("pool 0 1 1 1", "the header gives 0 frames; a pool has 1 to 4096"),
+    ("pool 4 1 4 1 65537", "the header gives 65537 quota pages; a pool has 0 to 65536"),
+    ("step 1", "a header begins with pool, not with step"),
+    ("pool 4 1 4 x", "x is not a number"),
+    ("script 4 1 4 1", "only explore, schedule and find accept a script whose header begins with script"),
+    ("script 0 1 4 1", "the header gives 0 frames; a pool has 1 to 4096"),
 ]
 
 
 def words_said(count: int) -> str:
-    return "there is 1 word" if count == 1 else f"there are {count} words"
+    return f"the line has {count} word{'' if count == 1 else 's'}"
 
 
 def wrong_fields(line: str, what: str) -> Iterator[tuple[str, str]]:
@@ -64,12 +72,12 @@ def wrong_fields(line: str, what: str) -> Iterator[tuple[str, str]]:
     words = line.split()
     for at, _ in (it for it in enumerate(words) if it[1].isdigit()):
         most = MOST_WORD if what == "a store" and at == 4 else MOST
-        said = {"x": "is no number", "-1": "is no number", "01": "begins with a zero", str(most + 1): f"is above {most}"}
+        said = {"x": "is not a number", "-1": "is not a number", "01": "begins with a zero", str(most + 1): f"is above {most}"}
         for word, why in said.items():
             yield " ".join([*words[:at], word, *words[at + 1 :]]), f"{word} {why}"
-    yield f"{line} 1", f"{words_said(len(words) + 1)}, {what} has {len(words)}"
+    yield f"{line} 1", f"{words_said(len(words) + 1)}; {what} has {len(words)}"
     if words[-1].isdigit():
-        yield " ".join(words[:-1]), f"{words_said(len(words) - 1)}, {what} has {len(words)}"
+        yield " ".join(words[:-1]), f"{words_said(len(words) - 1)}; {what} has {len(words)}"
 
 
 def wrong_headers() -> Iterator[tuple[str, str]]:
@@ -78,25 +86,26 @@ def wrong_headers() -> Iterator[tuple[str, str]]:
     for at, (what, least, most) in enumerate(SIZES, 1):
         changed = lambda word: " ".join([*right[:at], word, *right[at + 1 :]])
         for number in [*([0] if least else []), most + 1]:
-            yield changed(str(number)), f"there are {number} {what}, a pool has {least} to {most}"
-        yield changed("x"), "x is no number"
+            yield changed(str(number)), f"the header gives {number} {what}; a pool has {least} to {most}"
+        yield changed("x"), "x is not a number"
         yield changed("01"), "01 begins with a zero"
         yield changed(str(MOST + 1)), f"{MOST + 1} is above {MOST}"
     for many in (" ".join(right[:4]), " ".join([*right, "1"])):
-        yield many, f"there are {len(many.split())} words, a header has 5, or 6 with a quota"
+        yield many, f"{words_said(len(many.split()))}; a header has 5, or 6 with a quota"
 
 
-def said_of(number: int, line: str, why: str) -> Ran:
+def said_of(number: int, line: str, why: str, is_loose: bool = False) -> Ran:
     """What comes of a trace whose line of this number is wrong."""
     where = "line 1 is not a pool header" if number == 1 else f"line {number} is not allowed here"
     shown = line.replace("\t", "\\t").replace("\r", "\\r")
-    return Ran(1, "", f'hugepool: {where}\nhugepool: {why}{f": {chr(34)}{shown}{chr(34)}" if line else ""}\n')
+    faults = f'hugepool: {where}\nhugepool: {why}{f": {chr(34)}{shown}{chr(34)}" if line else ""}\n'
+    return Ran(1, "", faults + (FORMAT if is_loose else ""))
 
 
 def long_lines(program: Path) -> Iterator[tuple[str, bool]]:
     """Lines of more bytes than any event has: the first 56 of them are shown."""
     for line in ("a" * 57, "begin 1 store 0 " + "0" * 42 + "1234", "begin 1 store 0 " + "0" * 41 + "1"):
-        front = f'hugepool: line 2 is not allowed here\nhugepool: a line has 56 bytes at most: "{line[:56]}"..\n'
+        front = f'hugepool: line 2 is not allowed here\nhugepool: the line is longer than 56 bytes: "{line[:56]}"..\n'
         yield f"{line!r} is too long", run(program, "check", f"{HEADER}\n{line}\n") == Ran(1, "", front)
 
 
@@ -108,24 +117,24 @@ def tries(program: Path) -> Iterator[tuple[str, bool]]:
         wrong_lines += wrong_fields(line, what)
         if not line.startswith("begin"):
             script = run(program, "schedule", f"{HEADER}\n{line}\n")
-            yield f"{what} stands in no script", script == said_of(2, line, "an event of a script has to be a begin")
+            yield f"{what} stands in no script", script == said_of(2, line, "every event of a script must be a begin")
     for number, front, several in ((2, f"{HEADER}\n", wrong_lines), (1, "", headers)):
         for wrong, why in several:
             said = run(program, "check", f"{front}{wrong}\n")
-            yield f"of {wrong!r} it is said that {why}", said == said_of(number, wrong, why)
+            yield f"of {wrong!r} it is said that {why}", said == said_of(number, wrong, why, wrong in LOOSE)
     for byte in (0, 9, 31, 127, 128, 255):
         shown = {9: "\\t"}.get(byte, f"\\x{byte:02x}")
         said = run(program, "check", f"{HEADER}\nstep ".encode() + bytes([byte]) + b"\n")
-        yield f"byte {byte} is shown", said == said_of(2, f"step {shown}", f"a byte {byte} stands in no line")
+        yield f"byte {byte} is shown", said == said_of(2, f"step {shown}", f"byte {byte} is not allowed in a line")
     marked = run(program, "check", b"\xef\xbb\xbf" + f"{HEADER}\n".encode())
-    yield "a byte order mark", marked == said_of(1, f"\\xef\\xbb\\xbf{HEADER}", "no byte order mark stands before a header")
-    yield "an empty trace", run(program, "check") == said_of(1, "", "there is nothing to read")
+    yield "a byte order mark", marked == said_of(1, f"\\xef\\xbb\\xbf{HEADER}", "the header begins with a byte order mark", True)
+    yield "an empty trace", run(program, "check") == said_of(1, "", "the input is empty")
     cut = run(program, "check", f"{HEADER}\nstep 1")
-    yield "a line without its end", cut == said_of(2, "step 1", "the last line has no end")
+    yield "a line without its end", cut == said_of(2, "step 1", "the last line has no line feed", True)
     yield from long_lines(program)
     most = f"{HEADER}\n" + "step 1\n" * (MOST_EVENTS - 1)
     last, more = run(program, "check", f"{most}step x\n"), run(program, "check", f"{most}step 1\nstep x\n")
-    yield "the last line that there may be is looked at", last == said_of(MOST_EVENTS + 1, "step x", "x is no number")
+    yield "the last line that there may be is looked at", last == said_of(MOST_EVENTS + 1, "step x", "x is not a number")
     # (the first byte behind it is told, with what came with it)
-    front = f"hugepool: line {MOST_EVENTS + 2} is not allowed here\nhugepool: a trace has {MOST_EVENTS} events at most: \"s"
+    front = f"hugepool: line {MOST_EVENTS + 2} is not allowed here\nhugepool: a trace has at most {MOST_EVENTS} events: \"s"
     yield "one line more is too many", more[:2] == (1, "") and more.err.startswith(front)

@@ -9,6 +9,7 @@ the command elsewhere, and what is said of each wrong field of a line to what is
 from __future__ import annotations
 
 import os
+import pty
 import re
 import select
 import socket
@@ -35,6 +36,8 @@ WIDE = 28_000
 # what stands beside the events, and behind them
 BESIDE = 112
 EMPTY = "pool 1 1 1 1\n"
+# the answers of calls that did what they were to do
+GOOD = {"mapped", "word", "done"}
 # in the columns of task 2, of task 3 and of the pool what came of an event is wider than all else
 WORD = 2**64 - 1
 OUTCOMES = "".join(
@@ -119,6 +122,36 @@ def do_races_differ(script: str) -> bool:
     return False
 
 
+def at_terminal(words: str, read: str) -> tuple[str, str]:
+    """The output of a command, and what a terminal at its standard error gets."""
+    ours, theirs = pty.openpty()
+    with tempfile.TemporaryFile() as out, subprocess.Popen([TOP / "hugepool", *words.split()], stdin=subprocess.PIPE, stdout=out, stderr=theirs) as ran:
+        os.close(theirs)
+        ran.stdin.write(read.encode())
+        ran.stdin.close()
+        shown = b""
+        try:
+            while piece := os.read(ours, 65_536):
+                shown += piece
+        except OSError:  # the terminal's other end was closed
+            pass
+        os.close(ours)
+        ran.wait()
+        out.seek(0)
+        return out.read().decode(), shown.decode()
+
+
+def is_progress_shown(words: str, read: str, last: str) -> bool:
+    """Whether a search that takes long says at a terminal how far it is, each time in place of the time before, and then erases that; and
+    says nothing of it anywhere else."""
+    out, shown = at_terminal(words, read)
+    alone = run(TOP / "hugepool", words, read)
+    told = re.findall(r"\r\x1b\[Khugepool: (\d+) of (\d+) runs, \d+ a second, \d+ (?:s|min) left", shown)
+    runs = [int(it) for it, _ in told]
+    is_erased = shown.replace("\r\n", "\n").endswith(f"left\r\x1b[K{last}")
+    return bool(told) and runs == sorted(set(runs)) and is_erased and (alone.out, alone.err) == (out, last)
+
+
 def rows_fault(told: str, events: int) -> str | None:
     """What is wrong with the columns of an explanation of so many events, if anything is: its rows are as long as its head, but for the
     tasks behind it whose wait began or ended."""
@@ -126,6 +159,38 @@ def rows_fault(told: str, events: int) -> str | None:
     is_below = lambda row: len(row) == len(head) or len(row) > len(head) and row[len(head) :].startswith("  task ")
     at = next((k for k, row in enumerate(rows, 2) if not is_below(row)), None)
     return f"row {at} isn't as long as the head" if at else None
+
+
+def fits(options: str, script: str, columns: int) -> bool:
+    """Whether the explanations of some schedules of a script have no more columns with these options."""
+    traces = [output(f"schedule --seed {seed}", script) for seed in range(1, 6)]
+    return all(len(line) <= columns for trace in traces for line in output(f"explain {options}", trace).split("\n"))
+
+
+def waits_in(rows: list[str]) -> list[tuple[int, ...]]:
+    """The waits that the rows of an explanation tell: from which line to which, of which task, for whom, and for which index or file."""
+    found, begun = [], {}
+    for line, row in enumerate(rows, 2):
+        for task, what in re.findall(r"  task (\d+) waits (no more|for .*?)(?=  task |$)", row):
+            found += [(*begun.pop(task), line)] if task in begun else []
+            begun |= {task: (line, int(task), *map(int, re.findall(r"\d+", what.replace("slot", ""))))} if what != "no more" else {}
+    return sorted([*found, *((*it, len(rows) + 2) for it in begun.values())])
+
+
+def drawn_fault(picture: str, rows: list[str]) -> str | None:
+    """What is wrong with the waits, the failures and the blocked steps of a picture, by the rows of the same run in words, if anything is."""
+    step = min(int(it) for it in re.findall(r"<rect class='lane' x='72' y='\d+' width='(\d+)'", picture)) // len(rows)
+    hatched = re.findall(r"<title>line (\d+): task (\d+) waits for task (\d+)([^<]*)</title><rect class='held' x='\d+' y='\d+' width='(\d+)'", picture)
+    waits = [(int(line), int(task), int(holder), *map(int, re.findall(r"\d+", what)), int(line) + int(wide) // step) for line, task, holder, what, wide in hatched]
+    if sorted(waits) != [(line, task, holder, *what[1 if len(what) == 3 else 0:], end) for line, task, holder, *what, end in waits_in(rows)]:
+        return "it has other waits"
+    ended = [(line, it[1]) for line, row in enumerate(rows, 2) if (it := re.search(r": ended (\w+)", row)) and it[1] not in GOOD]
+    if [(int(line), answer) for line, answer in re.findall(r"<title>line (\d+): ended (\w+)</title>", picture)] != ended:
+        return "it has other failures"
+    blocked = [(line, it[1]) for line, row in enumerate(rows, 2) if (it := re.search(r"step \d+: blocked by (\d+)", row))]
+    if [(int(line), task) for line, task in re.findall(r"<title>line (\d+): blocked by task (\d+)</title>", picture)] != blocked:
+        return "it has other blocked steps"
+    return None
 
 
 def layout_fault(picture: str, wide: int, lanes: list[int], events: int) -> str | None:
@@ -177,21 +242,23 @@ def helps() -> Iterator[tuple[str, bool]]:
         about, _, usage = text.split("\n")[:3]
         yield f"{command} --help begins with what --help tells of it", about == told[command]
         options = " CONDITION.." if command in ("find", "minimize") else ""
-        options += " [OPTIONS]" if command in ("explore", "schedule", "find", "race", "work") else ""
-        wanted = " <NAME>" if command == "work" else " < FILE"
+        options += " [OPTIONS]" if command in ("replay", "explain", "draw", "explore", "schedule", "find", "race", "work") else ""
+        wanted = " <NAME>" if command == "work" else " [FILE]"
         yield f"{command} --help tells how it is called ({usage})", usage == f"Usage: hugepool {command}{options}{wanted}"
     for command in ("explain", "draw", "check"):
         yield f"{command} --help tells of traces as replay's does", len(below["replay"]) > 1000 and below[command] == below["replay"]
     yield "schedule --help tells of scripts as explore's does", len(below["explore"]) > 500 and below["schedule"] == below["explore"]
-    runs = {line for line in lines_of("explore") if re.match(r" +--(?:runs|audit)", line)}
-    yield "and of its options", len(runs) == 2 and lines_of("schedule") == lines_of("explore") - runs != set()
+    runs = {line for line in lines_of("explore") if re.match(r" +--(?:runs|audit|summary)", line)}
+    one = {line for line in lines_of("schedule") if re.match(r" +--run ", line)}
+    shared = lines_of("schedule") - one
+    yield "and of its options", len(runs) == 3 and len(one) == 1 and shared == lines_of("explore") - runs != set()
 
 
 def tries(program: Path) -> Iterator[tuple[str, bool]]:
     """What is tried, and whether it went as it should."""
-    yield "runs are written a part at a time, of 512 first", writes("explore --runs 513", EMPTY) == [512, 1]
-    yield "the next part has four times as many", writes("explore --runs 2561", EMPTY) == [512, 2048, 1]
-    yield "but where runs are long as many", writes("explore --runs 1025", LONG) == [512, 512, 1]
+    yield "runs are written a part at a time, of 16 first", writes("explore --runs 17", EMPTY) == [16, 1]
+    yield "the next part has four times as many", writes("explore --runs 81", EMPTY) == [16, 64, 1]
+    yield "but where runs are long as many", writes("explore --runs 2385", LONG) == [16, 64, 256, 1024, 1024, 1]
     # (what the program's buffer holds, and the lines of a piece that is read, may be to come)
     some = EMPTY + "step 1\n" * 50_000
     enough = len("refused idle\n") * 50_000 - 32_768
@@ -202,6 +269,10 @@ def tries(program: Path) -> Iterator[tuple[str, bool]]:
         yield f"{runs} runs in {shards} shards are those of one exploration", in_shards(name, 7, runs, shards, *options) == at_once
     yield "65,536 runs may be asked for", output("explore --runs 65536", EMPTY).count("\n") == 65_536
     yield "and as many races", output("race --times 65536", EMPTY).count("\n") == 65_536
+    # (long enough for a line of progress on any machine)
+    crowd, never = example("64-backends-one-segment.script"), "hugepool: no run meets all conditions (runs explored: 20000)\n"
+    yield "a summary says at a terminal how far it is", is_progress_shown("explore --summary --runs 20000", crowd, "")
+    yield "so does a search", is_progress_shown("find --answer 64:2=noframe --limit 20000", crowd, never)
     yield from helps()
     yield from reasons.tries(program)
     yield "a race is written before the next begins", writes("race --times 3", EMPTY) == [1, 1, 1]
@@ -217,6 +288,13 @@ def tries(program: Path) -> Iterator[tuple[str, bool]]:
         "of 64 tasks": "pool 1 1 1 64\n" + "".join(f"begin {task} exit\n" for task in range(1, 65)),
         "of calls in flight": example("calls-in-flight.trace"),
     }
+    for file in sorted((TOP / "examples").glob("*.explained")):
+        rows = file.read_text(encoding="utf-8").split("\n")[1:]
+        trace = example(f"{file.stem}.trace")
+        fault = drawn_fault(output("draw", trace), rows[: trace.count("\n") - 1])
+        yield f"a picture of {file.stem} shows what its explanation tells ({fault})", fault is None
+    yield "64 tasks are explained in 120 columns", fits("--compact", example("64-backends-one-segment.script"), 120)
+    yield "with Linux's functions, too", fits("--compact --linux", example("64-backends-one-segment.script"), 120)
     for name, trace in pictures.items():
         fault = picture_fault(output("draw", trace), trace.count("\n") - 1)
         yield f"a picture {name} holds all of it ({fault})", fault is None

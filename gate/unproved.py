@@ -85,7 +85,7 @@ CHANGES = {
     "hugepool/src/main.rt": [
         ("use std::io;\n", "use std::env::Env;\nuse std::io;\n"),
         ("fn main(", f"{OUTPUT}fn main("),
-        ("        rt.stdout(),\n", '        Flushed(rt.stdout(), rt.var("FLUSH_FAILS", &mut [0; 8]).is_ok()),\n'),
+        ("Noted::new(rt.stdout())", 'Noted::new(Flushed(rt.stdout(), rt.var("FLUSH_FAILS", &mut [0; 8]).is_ok()))'),
     ],
     "hp_race/src/starting_line.rt": [
         ("        self.came.fetch_add(", "        if self.racers == 5 { return; }\n        self.came.fetch_add("),
@@ -94,9 +94,9 @@ CHANGES = {
 }
 # a line of words for each command, and for help
 COMMANDS = [
-    *("replay", "explain", "draw", "check", "schedule", "explore --runs 2"),
-    "minimize --final resv=0",
-    *("race --times 2", "race --trace", "work readback", "--help"),
+    *("replay", "explain", "draw", "check", "schedule", "explore --runs 2", "explore --summary", "format", "step"),
+    *("explain --compact --linux --tasks 1 --lines 2..3", "explain --json --lines 2..3", "replay --json", "draw --html", "minimize --final resv=0"),
+    *("race --times 2", "race --trace", "work readback", "work readback --trace", "--help"),
 ]
 
 

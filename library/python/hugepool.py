@@ -193,7 +193,7 @@ def begin(task: int, op: str | Op, *numbers: int) -> Event:
     try:
         call = op if isinstance(op, Op) else Op[op.upper()]
     except KeyError:
-        raise NoSuch(f"no call is called {op}") from None
+        raise NoSuch(f"{op} is not a call") from None
     names = _NAMED[call].split()
     if len(names) != len(numbers):
         raise NoSuch(f"{call.name.lower()} names {len(names)} numbers: {', '.join(names)}")
@@ -227,7 +227,7 @@ def parse(line: str) -> Event:
         [number] = map(int, words)
         return {"step": step, "deny": deny, "kill": kill, "resize": resize}[kind](number)
     except (IndexError, KeyError, ValueError) as error:
-        raise NoSuch(f"no event: {line!r}") from error
+        raise NoSuch(f"not an event: {line!r}") from error
 
 
 def events(items: Iterable[Event]) -> ctypes.Array[Event]:

@@ -117,7 +117,7 @@ static void texts(void)
     assert(hugepool_check((const uint8_t *)trace, sizeof trace - 1, &events, &line) == HUGEPOOL_OK && events == 2);
     uint8_t why[80];
     assert(hugepool_reason((const uint8_t *)bad, sizeof bad - 1, 3, why, sizeof why, &needed) == HUGEPOOL_OK);
-    assert(memcmp(why, "no event is called stop: \"stop 1\"", needed) == 0);
+    assert(memcmp(why, "stop is not an event: \"stop 1\"", needed) == 0);
     assert(hugepool_reason((const uint8_t *)bad, sizeof bad - 1, 3, why, needed - 1, &again) == HUGEPOOL_TOO_SMALL && again == needed);
     assert(hugepool_reason((const uint8_t *)bad, sizeof bad - 1, 9, why, sizeof why, &needed) == HUGEPOOL_NO_SUCH);
 }

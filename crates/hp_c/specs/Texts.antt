@@ -6,6 +6,7 @@ use Rattle.hp_text.specs.declared.fault.ReplayFault.{ReplayFault}
 use Rattle.hp_text.specs.declared.fault.ReplayFault.TheVariants as fault
 use Rattle.hp_text.specs.Checking.{ReadsEvents}
 use Rattle.hp_explain.specs.Explaining.{Explained}
+use Rattle.hp_explain.specs.Views.{whole_view}
 use Rattle.hp_draw.specs.Drawing.{IsDrawing}
 use Rattle.hp_c.specs.Codes.{bad_header, bad_line, no_memory, no_such, ok, too_small}
 
@@ -15,7 +16,7 @@ Replays bytes text = (left : Option (List ℕ)) × Replayed (Some bytes) left (S
 
 -- the text explains it
 abbrev pub Explains : (bytes text : List ℕ) → Type 0
-Explains bytes text = (left : Option (List ℕ)) × Explained (Some bytes) left (Some []) (Some text)
+Explains bytes text = (left : Option (List ℕ)) × Explained whole_view (Some bytes) left (Some []) (Some text)
 
 -- the text is its picture
 abbrev pub Draws : (bytes text : List ℕ) → Type 0

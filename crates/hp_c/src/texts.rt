@@ -5,7 +5,7 @@ ghost use Rattle.hp_c.specs.Texts.{Codes, Counts, Draws, Explains, HasFaultTold,
 
 use crate::codes::{BAD_HEADER, BAD_LINE, NO_MEMORY, OK, TOO_SMALL};
 use hp_draw::draw;
-use hp_explain::explain;
+use hp_explain::{View, explain};
 use hp_replay::{ReplayFault, Watched, check_trace, replay};
 use std::alloc::Global;
 
@@ -37,7 +37,7 @@ fn explained(alloc: Global, trace: &[u8]) -> Result<Vec<u8>, ReplayFault>
 {
     let mut source = trace;
     let mut sink = Watched::new(Vec::new(alloc));
-    explain(alloc, &mut source, &mut sink)?;
+    explain(alloc, &View::whole(), &mut source, &mut sink)?;
     Ok(sink.into_inner())
 }
 

@@ -30,34 +30,54 @@ pub enum Reason<'a> {
     /// A size that no pool has: how many there are, of what, and the least and the most.
     Size(u64, &'a str, u64, u64),
     NoBegin,
+    /// A header of a script that may wait, where a trace is read or a script without waits.
+    Waits,
+    NoWaits,
+    OwnWait,
+    NoCallBehind,
 }
 
 impl fmt::Display for Reason<'_> {
     fn fmt<W: fmt::Write>(&self, f: &mut fmt::Formatter<W>) -> fmt::Result {
         match *self {
-            Reason::Nothing => f.write_str("there is nothing to read"),
-            Reason::TooLong => write!(f, "a line has {LONGEST_LINE} bytes at most"),
-            Reason::Unended => f.write_str("the last line has no end"),
-            Reason::CarriageReturn => f.write_str("a line ends with a carriage return"),
-            Reason::ByteOrderMark => f.write_str("no byte order mark stands before a header"),
-            Reason::Byte(byte) => write!(f, "a byte {byte} stands in no line"),
-            Reason::Empty => f.write_str("a line is empty"),
-            Reason::Spaces => f.write_str("one space parts two words, and none stands elsewhere"),
-            Reason::TooMany => write!(f, "a trace has {MOST_EVENTS} events at most"),
-            Reason::NoHeader(word) => write!(f, "a header begins with pool, and not with {word}"),
-            Reason::NoEvent(word) => write!(f, "no event is called {word}"),
-            Reason::NoCall(word) => write!(f, "no call is called {word}"),
-            Reason::Words(1, what, wanted) => write!(f, "there is 1 word, {what} has {wanted}"),
+            Reason::Nothing => f.write_str("the input is empty"),
+            Reason::TooLong => write!(f, "the line is longer than {LONGEST_LINE} bytes"),
+            Reason::Unended => f.write_str("the last line has no line feed"),
+            Reason::CarriageReturn => f.write_str("the line ends with a carriage return"),
+            Reason::ByteOrderMark => f.write_str("the header begins with a byte order mark"),
+            Reason::Byte(byte) => write!(f, "byte {byte} is not allowed in a line"),
+            Reason::Empty => f.write_str("the line is empty"),
+            Reason::Spaces => f.write_str(
+                "words must be separated by exactly one space, with no other spaces",
+            ),
+            Reason::TooMany => write!(f, "a trace has at most {MOST_EVENTS} events"),
+            Reason::NoHeader(word) => write!(f, "a header begins with pool, not with {word}"),
+            Reason::NoEvent(word) => write!(f, "{word} is not an event"),
+            Reason::NoCall(word) => write!(f, "{word} is not a call"),
+            Reason::Words(1, what, wanted) => write!(f, "the line has 1 word; {what} has {wanted}"),
             Reason::Words(count, what, wanted) => {
-                write!(f, "there are {count} words, {what} has {wanted}")
+                write!(f, "the line has {count} words; {what} has {wanted}")
             }
-            Reason::NoNumber(word) => write!(f, "{word} is no number"),
+            Reason::NoNumber(word) => write!(f, "{word} is not a number"),
             Reason::LeadingZero(word) => write!(f, "{word} begins with a zero"),
             Reason::Above(word, most) => write!(f, "{word} is above {most}"),
             Reason::Size(number, what, least, most) => {
-                write!(f, "there are {number} {what}, a pool has {least} to {most}")
+                write!(
+                    f,
+                    "the header gives {number} {what}; a pool has {least} to {most}"
+                )
             }
-            Reason::NoBegin => f.write_str("an event of a script has to be a begin"),
+            Reason::NoBegin => f.write_str("every event of a script must be a begin"),
+            Reason::Waits => {
+                f.write_str(
+                    "only explore, schedule and find accept a script whose header begins with script",
+                )
+            }
+            Reason::NoWaits => {
+                f.write_str("after is allowed only in a script whose header begins with script")
+            }
+            Reason::OwnWait => f.write_str("a call can't wait for its own task"),
+            Reason::NoCallBehind => f.write_str("an after must be followed by a begin"),
         }
     }
 }
@@ -65,7 +85,11 @@ impl fmt::Display for Reason<'_> {
 /// What is wrong with a line, if that can be told: its bytes, whether a line feed ended it, and its number, counted from 1.
 pub fn reason_of(bytes: &[u8], is_ended: bool, number: u64) -> Option<Reason<'_>> {
     if bytes.is_empty() && !is_ended {
-        return Some(Reason::Nothing);
+        return Some(if number == 1 {
+            Reason::Nothing
+        } else {
+            Reason::NoCallBehind
+        });
     }
     if number > MOST_EVENTS as u64 + 1 {
         return Some(Reason::TooMany);
@@ -110,10 +134,10 @@ fn wrong_header(line: &str) -> Option<Reason<'_>> {
         ("files", 1, Config::MAX_FILES),
         ("slots", 1, Config::MAX_SLOTS),
         ("tasks", 1, Config::MAX_TASKS),
-        ("pages of a quota", 0, Config::MAX_QUOTA),
+        ("quota pages", 0, Config::MAX_QUOTA),
     ];
     let first = line.split(' ').next()?;
-    if first != "pool" {
+    if first != "pool" && first != "script" {
         return Some(Reason::NoHeader(first));
     }
     let count = line.split(' ').count();
@@ -129,13 +153,20 @@ fn wrong_header(line: &str) -> Option<Reason<'_>> {
             return Some(Reason::Size(number, what, least, u64::from(most)));
         }
     }
-    None
+    // such a header is bad where no call may wait
+    if first == "script" {
+        Some(Reason::Waits)
+    } else {
+        None
+    }
 }
 
 fn wrong_event(line: &str) -> Option<Reason<'_>> {
     let first = line.split(' ').next()?;
     let wrong = match first {
-        "begin" => return wrong_begin(line),
+        // such a begin is bad behind an after of its own task alone
+        "begin" => return wrong_begin(line).or(Some(Reason::OwnWait)),
+        "after" => return wrong_fields(line, 1, 2, "an after", "2").or(Some(Reason::NoWaits)),
         "step" => wrong_fields(line, 1, 2, "a step", "2"),
         "deny" => wrong_fields(line, 1, 2, "a deny", "2"),
         "kill" => wrong_fields(line, 1, 2, "a kill", "2"),

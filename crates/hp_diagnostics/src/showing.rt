@@ -20,7 +20,7 @@ pub fn wrong_line<R: Recalls>(reader: &R, number: u64) -> Option<WrongLine<'_>> 
     })
 }
 
-/// As `there are 5 words, an alloc has 6: "begin 1 alloc 0 0"`. Of a line that is too long the front is shown.
+/// As `the line has 5 words; an alloc has 6: "begin 1 alloc 0 0"`. Of a line that is too long the front is shown.
 impl fmt::Display for WrongLine<'_> {
     fn fmt<W: fmt::Write>(&self, f: &mut fmt::Formatter<W>) -> fmt::Result {
         let shown = &self.bytes[..self.bytes.len().min(LONGEST_LINE)];

@@ -3,9 +3,7 @@ use Rattle.std.proofs.Common.{◌≡◌, ℕ, ◌+◌, ◌<◌, ◌≤◌, List,
 use Rattle.std.proofs.Common.{append_assoc, add-one}
 use Rattle.std.proofs.lemmas.List.{append-nil, get_or_default, take_more, take_all}
 use Rattle.std.specs.Prelude.{None, pos}
-use Rattle.hp_draw.specs.declared.following.Mark.{Mark}
 use Rattle.hp_draw.specs.declared.following.Numbers.{Numbers}
-use Rattle.hp_draw.specs.declared.following.Sign.TheVariants.{Denied}
 use Rattle.hp_draw.specs.Frames.{number_at, numbers_text}
 use Rattle.hp_draw.specs.Lanes.{lane_text, lanes_text}
 use Rattle.hp_draw.specs.Shapes.{texts}
@@ -42,11 +40,7 @@ one_more f xs n d old now new lt is e =
 
 -- the counts that are read where there are none
 abbrev pub no_numbers : Numbers
-no_numbers = record { at = 0; free = 0; resv = 0; bare = 0; owed = pos 0 }
-
--- and the mark
-abbrev pub no_mark : Mark
-no_mark = record { column = 0; at = 0; sign = Denied }
+no_numbers = record { at = 0; free = 0; resv = 0; bare = 0; owed = pos 0; used = 0 }
 
 -- all are
 pub all_of : {A : Type 0} (f : A → List ℕ) (xs : List A) (n : ℕ) (old now : List ℕ) → length xs ≤ n

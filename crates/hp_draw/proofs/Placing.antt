@@ -1,8 +1,8 @@
 -- Lanes that are placed, column by column, and columns that are found.
 use Rattle.std.proofs.Common.{◌≡◌, ℕ, zero, suc, ◌+◌, ◌<◌, ◌≤◌, Bool, true, false, List, [], ◌∷◌, ◌++◌, length, take, drop}
 use Rattle.std.proofs.Common.{get_or, set, Option, All, refl}
-use Rattle.std.proofs.Common.{arith, sym, ap, subst, ◌∙◌}
-use Rattle.std.specs.Prelude.{Some, None, IsTrue, is_some, map}
+use Rattle.std.proofs.Common.{arith, sym, ap, subst, true≢false, ◌∙◌}
+use Rattle.std.specs.Prelude.{Some, None, IsSome, IsTrue, is_some, map}
 use Rattle.std.proofs.lemmas.Grind.{common_steps}
 use Rattle.std.proofs.lemmas.List.{map-append, take_all, take_more}
 use Rattle.std.proofs.lemmas.List.Elements.{All-weaker, All-more}
@@ -42,6 +42,30 @@ pub one_column : (tops now : List (Option ℕ)) (found : List Bool) (n : ℕ) (t
 one_column tops now found n top e lt is same =
     ap (map is_some) e ∙ map-append is_some tops (top ∷ []) ∙ ap (λ (x : List Bool). x ++ (is_some top ∷ [])) same
     ∙ ap (λ (b : Bool). take n found ++ (b ∷ [])) (sym is) ∙ sym (take_more found n false lt)
+
+-- a column with a lane was found
+lane_found : (tops : List (Option ℕ)) (k : ℕ) → IsSome (get_or tops k None) → IsTrue (get_or (map is_some tops) k false)
+lane_found [] k there = absurd (true≢false (sym there))
+lane_found (None ∷ tops) zero there = absurd (true≢false (sym there))
+lane_found (Some top ∷ tops) zero there = refl
+lane_found (top ∷ tops) (suc k) there = lane_found tops k there
+
+pub was_found : (tops : List (Option ℕ)) (found : List Bool) (k : ℕ) → map is_some tops ≡ found → IsSome (get_or tops k None)
+    → IsTrue (get_or found k false)
+was_found tops found k same there = subst (λ (bs : List Bool). IsTrue (get_or bs k false)) same (lane_found tops k there)
+
+-- and one that was found has a lane
+found_lane : (tops : List (Option ℕ)) (k : ℕ) → IsTrue (get_or (map is_some tops) k false) → IsSome (get_or tops k None)
+found_lane [] k there = absurd (true≢false (sym there))
+found_lane (None ∷ tops) zero there = absurd (true≢false (sym there))
+found_lane (Some top ∷ tops) zero there = refl
+found_lane (top ∷ tops) (suc k) there = found_lane tops k there
+
+pub have_lanes : {A : Type 0} (column : A → ℕ) (xs : List A) (tops : List (Option ℕ)) (found : List Bool) → map is_some tops ≡ found
+    → All (λ x. IsTrue (get_or found (column x) false)) xs → All (λ x. IsSome (get_or tops (column x) None)) xs
+have_lanes column xs tops found same has =
+    All-weaker (λ x. IsTrue (get_or found (column x) false)) (λ x. IsSome (get_or tops (column x) None))
+    (λ x there. found_lane tops (column x) (subst (λ (bs : List Bool). IsTrue (get_or bs (column x) false)) (sym same) there)) xs has
 
 -- a column that was found stays so
 still_found : (found : List Bool) (i k : ℕ) → IsTrue (get_or found k false) → IsTrue (get_or (set found i true) k false)
@@ -96,6 +120,12 @@ pub one_room : (numbers : List Numbers) (n : ℕ) (x : Numbers) (free resv most_
 one_room numbers n x free resv most_free most_resv lt is upper lower room has =
     All-more (HaveRoom most_free most_resv) numbers n x lt
     (All-weaker (HaveRoom free resv) (HaveRoom most_free most_resv)
-    (λ y h. (omega (arith, h.0, upper), omega (arith, h.1, upper), omega (arith, h.2, lower), omega (arith, h.3, lower)))
+    (λ y h. (
+      omega (arith, h.0, upper),
+      omega (arith, h.1, upper),
+      omega (arith, h.2, upper),
+      omega (arith, h.3, lower),
+      omega (arith, h.4, lower),
+    ))
     (take n numbers) has)
     (subst (HaveRoom most_free most_resv) is room)

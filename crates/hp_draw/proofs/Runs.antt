@@ -3,22 +3,26 @@ use Rattle.std.proofs.Common.{◌≡◌, ℕ, suc, ◌+◌, ◌<◌, ◌≤◌, 
 use Rattle.std.proofs.Common.{ap, subst, ◌∙◌, append_assoc, arith, length-append, add-one}
 use Rattle.std.specs.Prelude.{None}
 use Rattle.std.proofs.lemmas.List.{append-nil, take_all, take_more}
-use Rattle.hp_base.specs.Text.{sizes}
+use Rattle.hp_base.specs.Text.{Sizes, sizes}
 use Rattle.hp_base.specs.declared.config.Config.{Config}
 use Rattle.hp_base.specs.declared.event.Event.{Event}
 use Rattle.hp_core.specs.Runs.{Row, IsOpening}
+use Rattle.hp_draw.specs.Lists.{listed}
+use Rattle.hp_draw.specs.Waits.{AreHolders}
 use Rattle.hp_core.specs.State.{CoreState}
 use Rattle.hp_machine.specs.declared.outcome.Outcome.{Outcome}
 use Rattle.hp_draw.specs.Following.{stay_in}
-use Rattle.hp_draw.specs.Sketches.{Happening, events_of, Happens, Drawn, IsDrawn, nothing_drawn, after, after_all, listed}
-use Rattle.hp_draw.specs.Sketches.{stays_in, with_stays_in}
+use Rattle.hp_draw.specs.Sketches.{AreWaits, Happening, events_of, Happened, Happens, Drawn, IsDrawn, nothing_drawn, after, after_all}
+use Rattle.hp_draw.specs.Sketches.{stays_in, ended}
+use Rattle.hp_draw.proofs.Columns.{opened}
+use Rattle.hp_draw.proofs.Exact.{exact_waits}
 use Rattle.hp_draw.specs.declared.following.Standing.{Standing}
 use Rattle.hp_draw.specs.declared.following.Stay.{Stay}
 
 -- one event more happens
 happens_more : (old mid new : CoreState) (list : List Happening) (h : Happening) → Happens old list mid
-    → Row mid h.event h.outcome h.core → h.core ≡ new → Happens old (list ++ (h ∷ [])) new
-happens_more old mid new [] h is row to = (subst (λ (s : CoreState). Row s h.event h.outcome h.core) is row, sym to)
+    → Happened mid h → h.core ≡ new → Happens old (list ++ (h ∷ [])) new
+happens_more old mid new [] h is row to = (subst (λ (s : CoreState). Happened s h) is row, sym to)
 happens_more old mid new (k ∷ list) h is row to = (is.0, happens_more k.core mid new list h is.1 row to)
 
 events_more : (list : List Happening) (h : Happening) → events_of (list ++ (h ∷ [])) ≡ events_of list ++ (h.event ∷ [])
@@ -54,21 +58,23 @@ up_to : (events : List Event) (n : ℕ) (e : Event) → n < length events → e 
     → take (n + 1) events ≡ take n events ++ (e ∷ [])
 up_to events n e lt is = take_more events n e lt ∙ ap (λ (x : Event). take n events ++ (x ∷ [])) (sym is)
 
-pub one_event : (tasks : ℕ) (events slice : List Event) (n at : ℕ) (e : Event) (outcome : Outcome) (old mid new : CoreState) (d dd : Drawn)
+pub one_event : (tasks : ℕ) (events slice : List Event) (n at : ℕ) (e : Event) (outcome : Outcome) (old mid new : CoreState)
+    (holders : List (Option ℕ)) (d dd : Drawn)
     → slice ≡ events → n < length slice → e ≡ get_or slice n e → at ≡ n → DrawnSoFar tasks events n old mid d → Row mid e outcome new
-    → dd ≡ after at d (record { event = e; outcome = outcome; core = new }) → DrawnSoFar tasks events (n + 1) old new dd
-one_event tasks events slice n at e outcome old mid new d dd same lt is number s row drawn =
+    → AreHolders new holders → dd ≡ after at d (record { event = e; outcome = outcome; core = new; holders = holders })
+    → DrawnSoFar tasks events (n + 1) old new dd
+one_event tasks events slice n at e outcome old mid new holders d dd same lt is number s row are drawn =
     record {
       happenings = s.happenings ++ (h ∷ []);
       are_events =
           events_more s.happenings h ∙ ap (λ (x : List Event). x ++ (e ∷ [])) s.are_events ∙ sym (up_to events n e there here);
       count = counted;
-      happens = happens_more old mid new s.happenings h s.happens row refl;
+      happens = happens_more old mid new s.happenings h s.happens (row, are) refl;
       is = drawn ∙ ap (λ (x : Drawn). after at x h) s.is ∙ sym (drawn_more 0 at (nothing_drawn tasks) s.happenings h place);
     }
   where
     h : Happening
-    h = record { event = e; outcome = outcome; core = new }
+    h = record { event = e; outcome = outcome; core = new; holders = holders }
 
     there : n < length events
     there = subst (λ (x : List Event). n < length x) same lt
@@ -90,7 +96,7 @@ one_event tasks events slice n at e outcome old mid new d dd same lt is number s
 -- all happened, and the stays of the calls in flight are added
 pub whole_run : (config : Config) (events slice : List Event) (n at : ℕ) (first new : CoreState) (d dd : Drawn)
     → slice ≡ events → length slice ≤ n → at ≡ n → IsOpening config first → DrawnSoFar (sizes config).tasks events n first new d
-    → dd ≡ with_stays_in at d
+    → dd ≡ ended at d
     → IsDrawn (sizes config) events dd
 whole_run config events slice n at first new d dd same le number opening s ends =
     record {
@@ -103,9 +109,17 @@ whole_run config events slice n at first new d dd same le number opening s ends 
       new = new;
       happens = s.happens;
       is =
-          ends ∙ ap (λ (x : Drawn). with_stays_in at x) s.is
-          ∙ ap (λ (k : ℕ). with_stays_in k (after_all 0 (nothing_drawn (sizes config).tasks) s.happenings)) (number ∙ sym s.count);
+          ends ∙ ap (λ (x : Drawn). ended at x) s.is
+          ∙ whole;
+      are_waits =
+          subst (λ (x : Drawn). AreWaits (sizes config).tasks s.happenings x.waits)
+          (sym (ends ∙ ap (λ (x : Drawn). ended at x) s.is ∙ whole))
+          (exact_waits (sizes config).tasks first new s.happenings (ap (λ (z : Sizes). z.tasks) (opened config first opening)) s.happens);
     }
+  where
+    whole : ended at (after_all 0 (nothing_drawn (sizes config).tasks) s.happenings)
+        ≡ ended (length s.happenings) (after_all 0 (nothing_drawn (sizes config).tasks) s.happenings)
+    whole = ap (λ (k : ℕ). ended k (after_all 0 (nothing_drawn (sizes config).tasks) s.happenings)) (number ∙ sym s.count)
 
 -- the stays in flight, column by column
 

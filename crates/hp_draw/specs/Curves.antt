@@ -1,10 +1,11 @@
 -- The counts, as curves.
-use Rattle.std.specs.Prelude.{ℕ, ℤ, ◌+◌, ◌-◌, ◌/◌, ◌==◌, ◌||◌, nat_lt, List, [], ◌∷◌, ◌++◌, codes, if◌then◌else◌}
+use Rattle.std.specs.Prelude.{ℕ, ℤ, ◌+◌, ◌-◌, ◌/◌, ◌==◌, ◌||◌, nat_lt, List, [], ◌∷◌, ◌++◌, Option, None, Some, codes}
+use Rattle.std.specs.Prelude.{if◌then◌else◌}
 use Rattle.std.specs.Fmt.{decimal, signed_decimal}
 use Rattle.hp_draw.specs.Layouts.{x_of, next_x_of, width_of, upper_base_of, lower_base_of, upper_of, lower_of}
 use Rattle.hp_draw.specs.Shapes.{box_text, words_text, texts}
 use Rattle.hp_draw.specs.declared.curves.Curve.{Curve}
-use Rattle.hp_draw.specs.declared.curves.Curve.TheVariants.{Free, Taken, Resv, Bare}
+use Rattle.hp_draw.specs.declared.curves.Curve.TheVariants.{Free, Taken, Resv, Bare, Used}
 use Rattle.hp_draw.specs.declared.following.Numbers.{Numbers}
 use Rattle.hp_draw.specs.declared.layout.Layout.{Layout}
 use Rattle.hp_draw.specs.declared.layout.TheConstants.{LEFT, UPPER, LOWER}
@@ -16,6 +17,7 @@ class_of Free = codes "free"
 class_of Taken = codes "resv"
 class_of Resv = codes "resv"
 class_of Bare = codes "bare"
+class_of Used = codes "used"
 
 -- how far from above it runs
 abbrev pub height_of : Layout → Curve → Numbers → ℕ
@@ -23,6 +25,7 @@ height_of l Free n = upper_of l n.free
 height_of l Taken n = upper_of l n.resv
 height_of l Resv n = lower_of l n.resv
 height_of l Bare n = lower_of l n.bare
+height_of l Used n = upper_of l n.used
 
 -- where one without a moment stands
 abbrev pub base_of : Layout → Curve → ℕ
@@ -30,6 +33,7 @@ base_of l Free = upper_base_of l
 base_of l Taken = upper_base_of l
 base_of l Resv = lower_base_of l
 base_of l Bare = lower_base_of l
+base_of l Used = upper_base_of l
 
 -- where it begins: as far from above as in its first moment
 abbrev pub start_of : Layout → Curve → List Numbers → ℕ
@@ -85,9 +89,16 @@ owed_told owed = codes ", owed " ++ (signed_decimal owed ++ codes "</title>")
 unfoldable pub bare_told : (bare : ℕ) → List ℕ
 bare_told bare = codes ", reserved without a page " ++ decimal bare
 
-abbrev pub counts_text : Layout → Numbers → List ℕ
-counts_text l n =
-    counts_front n ++ (bare_told n.bare ++ (owed_told n.owed ++ (box_text (codes "hit") (hit_place l n.at) ++ codes "</g>\n")))
+-- how many pages are used of how many, where the pool has a quota
+abbrev pub used_told : (quota : Option ℕ) → (used : ℕ) → List ℕ
+used_told None used = []
+used_told (Some quota) used = codes ", used " ++ (decimal used ++ (codes " of " ++ decimal quota))
+
+abbrev pub counts_text : Layout → (quota : Option ℕ) → Numbers → List ℕ
+counts_text l quota n =
+    counts_front n
+    ++ (bare_told n.bare
+    ++ (used_told quota n.used ++ (owed_told n.owed ++ (box_text (codes "hit") (hit_place l n.at) ++ codes "</g>\n"))))
 
 -- a level of the curves, with its number
 unfoldable pub level_line : (y width : ℕ) → List ℕ
@@ -109,7 +120,31 @@ levels_text l =
 unfoldable pub four_text : Layout → List Numbers → List ℕ
 four_text l numbers = curve_text l Free numbers ++ (curve_text l Taken numbers ++ (curve_text l Resv numbers ++ curve_text l Bare numbers))
 
+-- the line of the quota, and what stands over it
+unfoldable pub quota_line : (y width : ℕ) → List ℕ
+quota_line y width =
+    codes "<path class='quota' d='M" ++ (decimal LEFT ++ (codes " " ++ (decimal y ++ (codes "h" ++ (decimal width ++ codes "'/>\n")))))
+
+unfoldable pub quota_words : (quota y : ℕ) → List ℕ
+quota_words quota y =
+    codes "<text x='76' y='" ++ (decimal y ++ (codes "'>quota " ++ (decimal quota ++ codes "</text>\n")))
+
+-- the same, if the upper curves show as much
+abbrev pub quota_level : Layout → (quota : ℕ) → List ℕ
+quota_level l quota =
+    if nat_lt l.most_free quota then []
+    else quota_line (upper_of l quota) (width_of l 0 l.events) ++ quota_words quota (upper_of l quota - 3)
+
+-- the used count and the quota, where the pool has one
+abbrev pub quota_text : Layout → (quota : Option ℕ) → List Numbers → List ℕ
+quota_text l None numbers = []
+quota_text l (Some quota) numbers = curve_text l Used numbers ++ quota_level l quota
+
+-- the curves, and what is owed
+unfoldable pub shown_text : Layout → (quota : Option ℕ) → List Numbers → List ℕ
+shown_text l quota numbers = owed_text l numbers ++ (quota_text l quota numbers ++ four_text l numbers)
+
 -- all of it
-unfoldable pub curves_text : Layout → List Numbers → List ℕ
-curves_text l numbers =
-    levels_text l ++ (owed_text l numbers ++ (four_text l numbers ++ (sums_text l numbers ++ texts (counts_text l) numbers)))
+unfoldable pub curves_text : Layout → (quota : Option ℕ) → List Numbers → List ℕ
+curves_text l quota numbers =
+    levels_text l ++ (shown_text l quota numbers ++ (sums_text l numbers ++ texts (counts_text l quota) numbers))

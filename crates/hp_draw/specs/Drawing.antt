@@ -18,7 +18,7 @@ pub record PictureOf (s : Sizes) (events : List Event) (text : List ℕ) : Type 
   pub drawn : Drawn
   pub of_run : IsDrawn s events drawn
   pub layout : Layout
-  pub places : HasPlaces (length events) drawn layout
+  pub places : HasPlaces s.quota (length events) drawn layout
   pub is : text ≡ picture_text layout s drawn
 
 -- such a text was written

@@ -2,10 +2,12 @@
 use Rattle.std.specs.Prelude.{ℕ, ◌-◌, ◌==◌, Bool, true, false, not, Option, Some, None, if◌then◌else◌}
 use Rattle.hp_base.specs.declared.event.Event.{Event}
 use Rattle.hp_base.specs.declared.event.Event.TheVariants.{Begin, Step, Kill, Resize}
+use Rattle.hp_base.specs.declared.answer.Answer.{Answer}
+use Rattle.hp_base.specs.declared.answer.Answer.TheVariants as answer
 use Rattle.hp_machine.specs.declared.outcome.Outcome.{Outcome}
 use Rattle.hp_machine.specs.declared.outcome.Outcome.TheVariants as outcome
 use Rattle.hp_machine.specs.declared.phase.Phase.{Phase}
-use Rattle.hp_core.specs.Readers.{free_of, resv_of, owed_of, phase_of, all_reserved_of, all_pages_of}
+use Rattle.hp_core.specs.Readers.{free_of, resv_of, owed_of, phase_of, all_reserved_of, all_pages_of, quota_of, used_of}
 use Rattle.hp_core.specs.State.{CoreState}
 use Rattle.hp_draw.specs.declared.following.Standing.{Standing}
 use Rattle.hp_draw.specs.declared.following.Stay.{Stay}
@@ -22,7 +24,7 @@ phase_in core column = if column == 0 then None else phase_of core column
 
 -- where a call stands that begins
 abbrev pub begun : (at : ℕ) → Event → Option Phase → Option Standing
-begun at (Begin task op) (Some phase) = Some (record { op = op; begun = at; since = at; phase = phase; holder = None })
+begun at (Begin task op) (Some phase) = Some (record { op = op; begun = at; since = at; phase = phase })
 begun at (Begin task op) None = None
 begun at (Step task granted) phase = None
 begun at (Kill task) phase = None
@@ -30,29 +32,14 @@ begun at (Resize frames) phase = None
 
 -- where a call stands that moved
 abbrev pub moved : Option Standing → (at : ℕ) → Phase → Option Standing
-moved (Some s) at phase = Some (record { op = s.op; begun = s.begun; since = at; phase = phase; holder = None })
+moved (Some s) at phase = Some (record { op = s.op; begun = s.begun; since = at; phase = phase })
 moved None at phase = None
-
--- whether that task is the holder
-abbrev pub is_holder : Option ℕ → (task : ℕ) → Bool
-is_holder (Some holder) task = holder == task
-is_holder None task = false
-
--- where a call stands that was blocked; where the same holder blocks it again, it stands as before
-abbrev pub held_up : Standing → (at holder : ℕ) → Standing
-held_up s at holder =
-    if is_holder s.holder holder then s
-    else record { op = s.op; begun = s.begun; since = at; phase = s.phase; holder = Some holder }
-
-abbrev pub blocked : Option Standing → (at holder : ℕ) → Option Standing
-blocked (Some s) at holder = Some (held_up s at holder)
-blocked None at holder = None
 
 -- where a task's call stands after an event of it, if one is in flight then
 abbrev pub standing_after : Option Standing → (at : ℕ) → Event → Outcome → Option Phase → Option Standing
 standing_after before at event outcome.Begun phase = begun at event phase
 standing_after before at event (outcome.Moved to) phase = moved before at to
-standing_after before at event (outcome.Blocked holder) phase = blocked before at holder
+standing_after before at event (outcome.Blocked holder) phase = before
 standing_after before at event (outcome.Ended answer) phase = None
 standing_after before at event outcome.Marked phase = before
 standing_after before at event (outcome.Resized frames) phase = before
@@ -100,7 +87,7 @@ sign_for (Resize frames) other = other
 abbrev pub sign_of : Event → Outcome → Option Sign
 sign_of event outcome.Begun = sign_for event None
 sign_of event (outcome.Moved to) = sign_for event None
-sign_of event (outcome.Blocked holder) = sign_for event None
+sign_of event (outcome.Blocked holder) = sign_for event (Some (sign.Blocked holder))
 sign_of event (outcome.Ended answer) = sign_for event None
 sign_of event outcome.Marked = sign_for event None
 sign_of event (outcome.Resized frames) = sign_for event (Some (sign.Resized frames))
@@ -114,6 +101,41 @@ mark_with column at (Some s) = Some (record { column = column; at = at; sign = s
 abbrev pub mark_of : (column at : ℕ) → Event → Outcome → Option Mark
 mark_of column at event outcome = mark_with column at (sign_of event outcome)
 
+-- whether a call that ends so did not do what it was to do
+abbrev pub is_failure : Answer → Bool
+is_failure (answer.Mapped base) = false
+is_failure (answer.Word word) = false
+is_failure answer.Done = false
+is_failure answer.Segv = true
+is_failure answer.Beyond = true
+is_failure answer.NoFrame = true
+is_failure answer.NoQuota = true
+is_failure answer.NoMemory = true
+is_failure answer.Interrupted = true
+is_failure answer.Killed = true
+is_failure answer.BadFile = true
+is_failure answer.BadRange = true
+is_failure answer.NotMapped = true
+is_failure answer.NoAddress = true
+
+abbrev pub failed_with : Answer → Option Sign
+failed_with answer = if is_failure answer then Some (sign.Failed answer) else None
+
+-- the mark of a call that ends in a failure by an event
+abbrev pub failure_of : (column at : ℕ) → Outcome → Option Mark
+failure_of column at outcome.Begun = None
+failure_of column at (outcome.Moved to) = None
+failure_of column at (outcome.Blocked holder) = None
+failure_of column at (outcome.Ended answer) = mark_with column at (failed_with answer)
+failure_of column at outcome.Marked = None
+failure_of column at (outcome.Resized frames) = None
+failure_of column at (outcome.Refused why) = None
+
+-- the used count, and 0 where the pool has no quota
+abbrev pub counted_use : (quota : Option ℕ) → CoreState → ℕ
+counted_use None core = 0
+counted_use (Some quota) core = used_of core
+
 -- the counts of a core; reserved indices without a page are counted, and not made of the others
 abbrev pub numbers_of : CoreState → (at : ℕ) → Numbers
 numbers_of core at =
@@ -123,4 +145,5 @@ numbers_of core at =
       resv = resv_of core;
       bare = all_reserved_of core - all_pages_of core;
       owed = owed_of core;
+      used = counted_use (quota_of core) core;
     }

@@ -1,9 +1,10 @@
 -- What stands round the picture: its head, its legend, and the numbers of lines.
-use Rattle.std.specs.Prelude.{ℕ, zero, suc, ◌+◌, ◌*◌, ◌/◌, ◌%◌, ◌==◌, List, [], ◌++◌, codes, max, if◌then◌else◌}
+use Rattle.std.specs.Prelude.{ℕ, zero, suc, ◌+◌, ◌*◌, ◌/◌, ◌%◌, ◌==◌, List, [], ◌++◌, Option, None, Some, codes, max}
+use Rattle.std.specs.Prelude.{if◌then◌else◌}
 use Rattle.std.specs.Fmt.{decimal}
 use Rattle.hp_draw.specs.Layouts.{x_of, lower_base_of}
 use Rattle.hp_draw.specs.Shapes.{box_text, words_text, line_text}
-use Rattle.hp_draw.specs.declared.frame.TheConstants.{LEGEND}
+use Rattle.hp_draw.specs.declared.frame.TheConstants.{LEGEND, QUOTA_LEGEND}
 use Rattle.hp_draw.specs.declared.layout.Layout.{Layout}
 use Rattle.hp_draw.specs.declared.layout.TheConstants.{LEFT, TOP}
 use Rattle.hp_draw.specs.declared.shapes.Place.{Place}
@@ -36,9 +37,14 @@ head_text l =
     size_text (whole_width_of l) (whole_height_of l)
     ++ (view_text (whole_width_of l) (whole_height_of l) ++ (style_text ++ box_text (codes "background") (background l)))
 
+-- the legend of the quota, where the pool has one
+abbrev pub quota_legend : (quota : Option ℕ) → List ℕ
+quota_legend None = []
+quota_legend (Some quota) = QUOTA_LEGEND.now
+
 -- the title, and the legend
-unfoldable pub legend_text : (title : List ℕ) → List ℕ
-legend_text title = words_text (codes "name") 8 20 title ++ LEGEND.now
+unfoldable pub legend_text : (title : List ℕ) → (quota : Option ℕ) → List ℕ
+legend_text title quota = words_text (codes "name") 8 20 title ++ (LEGEND.now ++ quota_legend quota)
 
 -- the number of a moment's line in the trace, whose header is line 1, and a thin line down the picture
 abbrev pub number_text : Layout → (at : ℕ) → List ℕ

@@ -1,15 +1,18 @@
 -- The lanes of tasks, and the stays in them.
-use Rattle.std.specs.Prelude.{ℕ, zero, suc, ◌+◌, ◌-◌, ◌/◌, ◌==◌, nat_le, nat_lt, List, [], ◌++◌, length, Option, Some}
+use Rattle.std.specs.Prelude.{ℕ, zero, suc, ◌+◌, ◌-◌, ◌/◌, ◌==◌, nat_le, List, [], ◌++◌, length, Option, Some}
 use Rattle.std.specs.Prelude.{None, get_or, codes, if◌then◌else◌}
 use Rattle.std.specs.Fmt.{decimal}
 use Rattle.hp_base.specs.Text.{answer_text, op_text}
 use Rattle.hp_base.specs.declared.event.Op.{Op}
 use Rattle.hp_base.specs.declared.event.Op.TheVariants.{Map, MapNoReserve, Unmap, Load, Store, Alloc, Punch, Truncate, Exit}
 use Rattle.hp_machine.specs.Text.{phase_word}
+use Rattle.hp_machine.specs.declared.phase.Phase.{Phase}
+use Rattle.hp_words.specs.Linux.{linux_word}
 use Rattle.hp_draw.specs.Layouts.{x_of, width_of, top_of}
-use Rattle.hp_draw.specs.Shapes.{box_text, words_text, upright_text, line_text}
+use Rattle.hp_draw.specs.Shapes.{box_text, words_text, upright_text}
 use Rattle.hp_draw.specs.declared.following.Next.{Next}
 use Rattle.hp_draw.specs.declared.following.Next.TheVariants.{GoesOn, Ended, InFlight}
+use Rattle.hp_draw.specs.declared.following.Standing.{Standing}
 use Rattle.hp_draw.specs.declared.following.Stay.{Stay}
 use Rattle.hp_draw.specs.declared.layout.Layout.{Layout}
 use Rattle.hp_draw.specs.declared.layout.TheConstants.{LEFT}
@@ -53,24 +56,27 @@ unfoldable pub place_of : Layout → Stay → Place
 place_of l s =
     record { x = x_of l s.standing.since; y = top_of l s.column; width = width_of l s.standing.since s.until; height = l.tall }
 
-abbrev pub blocked_words : Option ℕ → List ℕ
-blocked_words None = []
-blocked_words (Some holder) = codes ", blocked by task " ++ decimal holder
-
 abbrev pub ended_words : Next → (until : ℕ) → List ℕ
 ended_words GoesOn until = []
 ended_words (Ended answer) until =
     codes ", ended in line " ++ (decimal (until + 2) ++ (codes ": " ++ answer_text answer))
 ended_words InFlight until = []
 
--- what is told of it where the pointer rests on it, in the numbers of the trace's lines
+-- which call stands where, in the numbers of the trace's lines
+unfoldable pub stood_text : (column : ℕ) → Standing → List ℕ
+stood_text column s =
+    codes "<g><title>line " ++ (decimal (s.since + 2)
+    ++ (codes ": " ++ (op_text s.op
+    ++ (codes " of task " ++ (decimal column ++ (codes " at " ++ phase_word s.phase))))))
+
+-- what does in Linux what the next step does
+abbrev pub linux_text : Phase → List ℕ
+linux_text phase = codes " (Linux: " ++ (linux_word phase ++ codes ")")
+
+-- what is told of a stay where the pointer rests on it
 unfoldable pub told_text : Stay → List ℕ
 told_text s =
-    codes "<g><title>line " ++ (decimal (s.standing.since + 2)
-    ++ (codes ": " ++ (op_text s.standing.op
-    ++ (codes " of task " ++ (decimal s.column
-    ++ (codes " at " ++ (phase_word s.standing.phase
-    ++ (blocked_words s.standing.holder ++ (ended_words s.next s.until ++ codes "</title>")))))))))
+    stood_text s.column s.standing ++ (linux_text s.standing.phase ++ (ended_words s.next s.until ++ codes "</title>"))
 
 -- the phase's name: along the box, upright in it, or not at all, as there is room
 unfoldable pub phase_text : Place → (phase : List ℕ) → List ℕ
@@ -78,37 +84,13 @@ phase_text p phase =
     if nat_le 58 p.width then words_text (codes "in") (p.x + p.width / 2) (p.y + p.height / 2 + 3) phase
     else (if nat_le 12 p.width then upright_text (codes "in") (p.x + p.width / 2 + 3) (p.y + p.height / 2) phase else [])
 
--- the hatch of one that is blocked
-unfoldable pub hatch_text : Option ℕ → Place → List ℕ
-hatch_text None p = []
-hatch_text (Some holder) p = box_text (codes "held") p
-
--- the box of a stay, coloured by operation, and hatched where it is blocked
-unfoldable pub box_of : Layout → Stay → List ℕ
-box_of l s = box_text (class_of s.standing.op) (place_of l s) ++ hatch_text s.standing.holder (place_of l s)
-
+-- the box of a stay, coloured by operation, and what is told of it
 abbrev pub stay_text : Layout → Stay → List ℕ
-stay_text l s =
-    told_text s ++ (box_of l s ++ (phase_text (place_of l s) (phase_word s.standing.phase) ++ codes "</g>\n"))
+stay_text l s = told_text s ++ (box_text (class_of s.standing.op) (place_of l s) ++ codes "</g>\n")
 
--- the end of a line at its holder
-unfoldable pub holder_text : (x y : ℕ) → List ℕ
-holder_text x y =
-    codes "<circle class='holder' cx='" ++ (decimal x ++ (codes "' cy='" ++ (decimal y ++ codes "' r='3'/>\n")))
-
--- a line from the edge of one lane to that of another
-abbrev pub between_text : (x own other tall : ℕ) → List ℕ
-between_text x own other tall =
-    if nat_lt other own then line_text (codes "wait") x own (other + tall) ++ holder_text x (other + tall)
-    else line_text (codes "wait") x (own + tall) other ++ holder_text x other
-
--- the line from a stay that is blocked to its holder
-abbrev pub wait_to : Layout → Stay → Option ℕ → List ℕ
-wait_to l s None = []
-wait_to l s (Some holder) = between_text (x_of l s.standing.since + 4) (top_of l s.column) (top_of l holder) l.tall
-
-abbrev pub wait_text : Layout → Stay → List ℕ
-wait_text l s = wait_to l s s.standing.holder
+-- the name of its phase
+abbrev pub phase_of : Layout → Stay → List ℕ
+phase_of l s = phase_text (place_of l s) (phase_word s.standing.phase)
 
 -- the words over a call: with its answer where they have room, else without
 abbrev pub label_of : Op → Next → (room : ℕ) → List ℕ

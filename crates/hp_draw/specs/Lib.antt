@@ -1,9 +1,12 @@
+pub mod Lists
+pub mod Waits
 pub mod Following
 pub mod Sketches
 pub mod Layouts
 pub mod Places
 pub mod Shapes
 pub mod Lanes
+pub mod Hatches
 pub mod Marks
 pub mod Curves
 pub mod Frames

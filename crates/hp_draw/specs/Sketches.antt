@@ -1,51 +1,74 @@
 -- What is to be drawn of a run.
-use Rattle.std.specs.Prelude.{◌≡◌, ℕ, zero, suc, ◌+◌, List, [], ◌∷◌, ◌++◌, length, map, Option, Some, None, get_or, replicate, slice_set}
+use Rattle.std.specs.Prelude.{◌≡◌, ℕ, zero, suc, ◌+◌, ◌≤◌, All, slice_get, List, []}
+use Rattle.std.specs.Prelude.{◌∷◌, ◌++◌, length, map, Option, Some, None, get_or, replicate, slice_set}
 use Rattle.hp_base.specs.Text.{Sizes, sizes}
 use Rattle.hp_base.specs.declared.config.Config.{Config}
 use Rattle.hp_base.specs.declared.event.Event.{Event}
 use Rattle.hp_core.specs.Readers.{config_of}
 use Rattle.hp_core.specs.Runs.{Row, IsOpening}
 use Rattle.hp_core.specs.State.{CoreState}
+use Rattle.hp_core.specs.Waiting.{WaitsFor}
 use Rattle.hp_machine.specs.declared.outcome.Outcome.{Outcome}
 use Rattle.hp_text.specs.Columns.{column_of}
-use Rattle.hp_draw.specs.Following.{phase_in, standing_after, stay_left, stay_in, mark_of, numbers_of}
+use Rattle.hp_draw.specs.Following.{phase_in, standing_after, stay_left, stay_in, mark_of, failure_of, numbers_of}
+use Rattle.hp_draw.specs.Lists.{listed}
+use Rattle.hp_draw.specs.Waits.{AreHolders, GoesOn, IsShown, waiting_tasks, waits_left}
 use Rattle.hp_draw.specs.declared.following.Standing.{Standing}
 use Rattle.hp_draw.specs.declared.following.Stay.{Stay}
 use Rattle.hp_draw.specs.declared.following.Mark.{Mark}
 use Rattle.hp_draw.specs.declared.following.Numbers.{Numbers}
 use Rattle.hp_draw.specs.declared.sketch.Sketch.{Sketch}
+use Rattle.hp_draw.specs.declared.waits.Wait.{Wait}
+use Rattle.hp_draw.specs.declared.waits.Waiting.{Waiting}
 
--- an event, what came of it, and the core that it led to
+-- an event, what came of it, the core that it led to, and by whom each task's next step would be blocked there
 pub record Happening : Type 0 where
   pub event : Event
   pub outcome : Outcome
   pub core : CoreState
+  pub holders : List (Option ℕ)
 
 abbrev pub events_of : List Happening → List Event
 events_of list = map (λ h. h.event) list
 
--- one after the other they are rows of the machine, and lead from old to new
+-- it is a row of the machine, and whom each task waits for behind it is known
+abbrev pub Happened : CoreState → Happening → Type 0
+Happened old h = Row old h.event h.outcome h.core × AreHolders h.core h.holders
+
+-- one after the other they happened, and lead from old to new
 abbrev pub Happens : CoreState → List Happening → CoreState → Type 0
 Happens old [] new = new ≡ old
-Happens old (h ∷ more) new = Row old h.event h.outcome h.core × Happens h.core more new
+Happens old (h ∷ more) new = Happened old h × Happens h.core more new
 
--- where the call of each column stands, the stays that ended, the marks, and the counts behind each event
+-- where the call of each column stands, the stays that ended, the marks, the counts behind each event, for whom each task waits, and
+-- the waits that ended
 pub record Drawn : Type 0 where
   pub standings : List (Option Standing)
   pub stays : List Stay
   pub marks : List Mark
   pub numbers : List Numbers
+  pub waiting : List (Option Waiting)
+  pub waits : List Wait
 
 abbrev pub seen : Sketch → Drawn
-seen s = record { standings = s.standings.items; stays = s.stays.items; marks = s.marks.items; numbers = s.numbers.items }
-
-abbrev pub listed : {A : Type 0} → Option A → List A
-listed None = []
-listed (Some x) = x ∷ []
+seen s =
+    record {
+      standings = s.standings.items;
+      stays = s.stays.items;
+      marks = s.marks.items;
+      numbers = s.numbers.items;
+      waiting = s.waits.now.items;
+      waits = s.waits.ended.items;
+    }
 
 -- a pool of so many tasks of which nothing was seen
 abbrev pub nothing_drawn : (tasks : ℕ) → Drawn
-nothing_drawn tasks = record { standings = replicate (tasks + 1) None; stays = []; marks = []; numbers = [] }
+nothing_drawn tasks =
+    record { standings = replicate (tasks + 1) None; stays = []; marks = []; numbers = []; waiting = []; waits = [] }
+
+-- for whom each task waits once the event of that moment has happened
+abbrev pub waiting_then : (at : ℕ) → Drawn → Happening → List (Option Waiting)
+waiting_then at d h = waiting_tasks h.core at h.holders d.waiting (config_of h.core).tasks
 
 -- what is added by an event of that column, which led from one standing to another
 abbrev pub added : (at column : ℕ) → (before now : Option Standing) → Drawn → Happening → Drawn
@@ -53,8 +76,10 @@ added at column before now d h =
     record {
       standings = slice_set d.standings column now;
       stays = d.stays ++ listed (stay_left column at before now h.outcome);
-      marks = d.marks ++ listed (mark_of column at h.event h.outcome);
+      marks = (d.marks ++ listed (mark_of column at h.event h.outcome)) ++ listed (failure_of column at h.outcome);
       numbers = d.numbers ++ (numbers_of h.core at ∷ []);
+      waiting = waiting_then at d h;
+      waits = d.waits ++ waits_left at d.waiting (waiting_then at d h) (length d.waiting);
     }
 
 abbrev pub after_in : (at column : ℕ) → (before : Option Standing) → Drawn → Happening → Drawn
@@ -77,18 +102,31 @@ unfoldable pub stays_in : (at : ℕ) → List (Option Standing) → (n : ℕ) �
 stays_in at standings zero = []
 stays_in at standings (suc n) = stays_in at standings n ++ listed (stay_in n at (get_or standings n None))
 
-abbrev pub with_stays_in : (at : ℕ) → Drawn → Drawn
-with_stays_in at d =
+-- at the end: the stays of these calls, and the waits that go on
+abbrev pub ended : (at : ℕ) → Drawn → Drawn
+ended at d =
     record {
       standings = d.standings;
       stays = d.stays ++ stays_in at d.standings (length d.standings);
       marks = d.marks;
       numbers = d.numbers;
+      waiting = d.waiting;
+      waits = d.waits ++ waits_left at d.waiting [] (length d.waiting);
     }
 
 -- what is drawn of a whole run
 abbrev pub drawn_of : (tasks : ℕ) → List Happening → Drawn
-drawn_of tasks happenings = with_stays_in (length happenings) (after_all 0 (nothing_drawn tasks) happenings)
+drawn_of tasks happenings = ended (length happenings) (after_all 0 (nothing_drawn tasks) happenings)
+
+-- The waits are what the run says. One goes on behind an event where each step of its task would be blocked by its holder there; and
+-- where each step of a task would be blocked by some holder, one of its waits goes on
+pub record AreWaits (tasks : ℕ) (happenings : List Happening) (waits : List Wait) : Type 0 where
+  pub held :
+      All (λ w. (k : ℕ) (h : Happening) → GoesOn w k → slice_get happenings k ≡ Some h
+      → WaitsFor h.core w.column (Some w.waiting.holder)) waits
+  pub shown :
+      (k t holder : ℕ) (h : Happening) → slice_get happenings k ≡ Some h → 1 ≤ t → t ≤ tasks → WaitsFor h.core t (Some holder)
+      → IsShown t k waits
 
 -- this is what is to be drawn of a run of these events from the opening state of a pool of these sizes
 pub record IsDrawn (s : Sizes) (events : List Event) (d : Drawn) : Type 0 where
@@ -101,3 +139,4 @@ pub record IsDrawn (s : Sizes) (events : List Event) (d : Drawn) : Type 0 where
   pub new : CoreState
   pub happens : Happens first happenings new
   pub is : d ≡ drawn_of s.tasks happenings
+  pub are_waits : AreWaits s.tasks happenings d.waits

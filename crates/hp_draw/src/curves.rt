@@ -3,7 +3,8 @@ ghost use Rattle.std.specs.Prelude.{◌≡◌, ◌++◌, ◌<◌, ◌^◌, OnOk,
 ghost use Rattle.hp_draw.specs.Curves.{base_of, between_text, class_of, counts_text, curve_head, curve_text, curves_text};
 ghost use Rattle.hp_draw.specs.Curves.{bare_told, counts_front, four_text, height_of, start_of, hit_place, level_line};
 ghost use Rattle.hp_draw.specs.Curves.{level_text};
-ghost use Rattle.hp_draw.specs.Curves.{levels_text, owed_text, owed_told, point_text, sum_text, sums_text};
+ghost use Rattle.hp_draw.specs.Curves.{levels_text, owed_text, owed_told, point_text, quota_level, quota_line, quota_text};
+ghost use Rattle.hp_draw.specs.Curves.{quota_words, shown_text, sum_text, sums_text, used_told};
 ghost use Rattle.hp_draw.specs.Shapes.{texts};
 
 use crate::following::Numbers;
@@ -22,6 +23,8 @@ pub(crate) enum Curve {
     Resv,
     /// Reserved indices without a page.
     Bare,
+    /// The used count, among the upper curves.
+    Used,
 }
 
 /// The class of a curve's looks.
@@ -32,6 +35,7 @@ fn class_of(curve: Curve) -> &'static str
         Curve::Free => "free",
         Curve::Taken | Curve::Resv => "resv",
         Curve::Bare => "bare",
+        Curve::Used => "used",
     }
 }
 
@@ -44,6 +48,7 @@ fn height_of(layout: &Layout, curve: Curve, counts: &Numbers) -> u64
         Curve::Taken => layout.upper(counts.resv),
         Curve::Resv => layout.lower(counts.resv),
         Curve::Bare => layout.lower(counts.bare),
+        Curve::Used => layout.upper(counts.used),
     }
 }
 
@@ -52,7 +57,7 @@ fn base_of(layout: &Layout, curve: Curve) -> u64
     ensures { result ≡ base_of layout.now curve }
 {
     match curve {
-        Curve::Free | Curve::Taken => layout.upper_base(),
+        Curve::Free | Curve::Taken | Curve::Used => layout.upper_base(),
         Curve::Resv | Curve::Bare => layout.lower_base(),
     }
 }
@@ -230,12 +235,28 @@ fn push_bare_told(bare: u32, text: &mut String) -> Result<(), AllocError>
     write!(text, ", reserved without a page {bare}")
 }
 
+/// Appends how many pages are used of how many, where the pool has a quota.
+fn push_used_told(quota: Option<u32>, used: u32, text: &mut String) -> Result<(), AllocError>
+    ensures { OnOk result (string_bytes text.new ≡ string_bytes text.old ++ used_told quota used) }
+{
+    match quota {
+        Some(quota) => write!(text, ", used {used} of {quota}"),
+        None => Ok(()),
+    }
+}
+
 /// Appends the same, and where it is told.
-fn push_counts(layout: &Layout, counts: &Numbers, text: &mut String) -> Result<(), AllocError>
-    ensures { OnOk result (string_bytes text.new ≡ string_bytes text.old ++ counts_text layout.now counts.now) }
+fn push_counts(
+    layout: &Layout,
+    quota: Option<u32>,
+    counts: &Numbers,
+    text: &mut String,
+) -> Result<(), AllocError>
+    ensures { OnOk result (string_bytes text.new ≡ string_bytes text.old ++ counts_text layout.now quota counts.now) }
 {
     push_counts_front(counts, text)?;
     push_bare_told(counts.bare, text)?;
+    push_used_told(quota, counts.used, text)?;
     push_owed_told(counts.owed, text)?;
     push_box("hit", hit_place(layout, counts.at), text)?;
     text.push_str("</g>\n")
@@ -244,13 +265,14 @@ fn push_counts(layout: &Layout, counts: &Numbers, text: &mut String) -> Result<(
 /// Appends the same of each event.
 fn push_all_counts(
     layout: &Layout,
+    quota: Option<u32>,
     numbers: &[Numbers],
     text: &mut String,
 ) -> Result<(), AllocError>
-    ensures { OnOk result (string_bytes text.new ≡ string_bytes text.old ++ texts (counts_text layout.now) numbers.now) }
+    ensures { OnOk result (string_bytes text.new ≡ string_bytes text.old ++ texts (counts_text layout.now quota) numbers.now) }
 {
     for counts in numbers {
-        push_counts(layout, counts, text)?;
+        push_counts(layout, quota, counts, text)?;
     }
     Ok(())
 }
@@ -303,19 +325,78 @@ fn push_four(layout: &Layout, numbers: &[Numbers], text: &mut String) -> Result<
     push_curve(layout, Curve::Bare, numbers, text)
 }
 
+/// Appends the line of the quota.
+#[tactic(auto, unfolding(crate::specs::Curves::quota_line))]
+fn push_quota_line(y: u64, width: u64, text: &mut String) -> Result<(), AllocError>
+    ensures { OnOk result (string_bytes text.new ≡ string_bytes text.old ++ quota_line y width) }
+{
+    writeln!(text, "<path class='quota' d='M{LEFT} {y}h{width}'/>")
+}
+
+/// Appends what stands over it.
+#[tactic(auto, unfolding(crate::specs::Curves::quota_words))]
+fn push_quota_words(quota: u32, y: u64, text: &mut String) -> Result<(), AllocError>
+    ensures { OnOk result (string_bytes text.new ≡ string_bytes text.old ++ quota_words quota y) }
+{
+    writeln!(text, "<text x='76' y='{y}'>quota {quota}</text>")
+}
+
+/// Appends the line of a quota, if the upper curves show as much.
+fn push_quota_level(layout: &Layout, quota: u32, text: &mut String) -> Result<(), AllocError>
+    ensures { OnOk result (string_bytes text.new ≡ string_bytes text.old ++ quota_level layout.now quota) }
+{
+    if quota > layout.most_free {
+        return Ok(());
+    }
+    let y = layout.upper(quota);
+    push_quota_line(y, layout.width(0, layout.events), text)?;
+    push_quota_words(quota, y.saturating_sub(3), text)
+}
+
+/// Appends the used count and the line of the quota, where the pool has one.
+fn push_quota(
+    layout: &Layout,
+    quota: Option<u32>,
+    numbers: &[Numbers],
+    text: &mut String,
+) -> Result<(), AllocError>
+    ensures { OnOk result (string_bytes text.new ≡ string_bytes text.old ++ quota_text layout.now quota numbers.now) }
+{
+    let Some(quota) = quota else {
+        return Ok(());
+    };
+    push_curve(layout, Curve::Used, numbers, text)?;
+    push_quota_level(layout, quota, text)
+}
+
+/// Appends the curves, and what is owed.
+#[tactic(auto, unfolding(crate::specs::Curves::shown_text))]
+fn push_shown(
+    layout: &Layout,
+    quota: Option<u32>,
+    numbers: &[Numbers],
+    text: &mut String,
+) -> Result<(), AllocError>
+    ensures { OnOk result (string_bytes text.new ≡ string_bytes text.old ++ shown_text layout.now quota numbers.now) }
+{
+    push_owed(layout, numbers, text)?;
+    push_quota(layout, quota, numbers, text)?;
+    push_four(layout, numbers, text)
+}
+
 /// Appends all of it.
 #[tactic(auto, unfolding(crate::specs::Curves::curves_text))]
 pub(crate) fn push_curves(
     layout: &Layout,
+    quota: Option<u32>,
     numbers: &[Numbers],
     word: &mut String,
     text: &mut String,
 ) -> Result<(), AllocError>
-    ensures { OnOk result (string_bytes text.new ≡ string_bytes text.old ++ curves_text layout.now numbers.now) }
+    ensures { OnOk result (string_bytes text.new ≡ string_bytes text.old ++ curves_text layout.now quota numbers.now) }
 {
     push_levels(layout, word, text)?;
-    push_owed(layout, numbers, text)?;
-    push_four(layout, numbers, text)?;
+    push_shown(layout, quota, numbers, text)?;
     push_sums(layout, numbers, text)?;
-    push_all_counts(layout, numbers, text)
+    push_all_counts(layout, quota, numbers, text)
 }

@@ -10,7 +10,8 @@ ghost use Rattle.hp_text.specs.Writing.{IsWriteFault};
 
 use crate::curves::push_curves;
 use crate::frame::{push_head, push_legend, push_lines};
-use crate::lanes::{push_calls, push_lanes, push_stays, push_waits};
+use crate::hatches::push_hatches;
+use crate::lanes::{push_calls, push_lanes, push_phases, push_stays};
 use crate::layout::{Layout, lay_out};
 use crate::marks::push_marks;
 use crate::sketch::{Sketch, sketch_run};
@@ -29,9 +30,10 @@ fn push_tasks(
     ensures { OnOk result (string_bytes text.new ≡ string_bytes text.old ++ tasks_text layout.now (seen sketch.now)) }
 {
     push_lanes(layout, word, text)?;
-    push_stays(layout, sketch.stays.as_slice(), word, text)?;
+    push_stays(layout, sketch.stays.as_slice(), text)?;
+    push_hatches(layout, sketch.waits.ended.as_slice(), text)?;
+    push_phases(layout, sketch.stays.as_slice(), word, text)?;
     push_calls(layout, sketch.stays.as_slice(), word, text)?;
-    push_waits(layout, sketch.stays.as_slice(), text)?;
     push_marks(layout, sketch.marks.as_slice(), text)
 }
 
@@ -49,10 +51,10 @@ fn push_picture(
     push_head(layout, text)?;
     word.clear();
     write!(word, "{config}")?;
-    push_legend(word.as_str(), text)?;
+    push_legend(word.as_str(), config.quota, text)?;
     push_lines(layout, word, text)?;
     push_tasks(layout, sketch, word, text)?;
-    push_curves(layout, sketch.numbers.as_slice(), word, text)?;
+    push_curves(layout, config.quota, sketch.numbers.as_slice(), word, text)?;
     text.push_str("</svg>\n")
 }
 
@@ -77,7 +79,7 @@ fn lay_picture(alloc: Global, trace: &Trace) -> Result<String, AllocError>
     ensures { IfOk result (λ text. PictureOf (sizes trace.now.config) trace.now.events.items (string_bytes text)) }
 {
     let sketch = sketch_run(alloc, trace)?;
-    let layout = lay_out(alloc, trace.events.as_slice(), &sketch)?;
+    let layout = lay_out(alloc, trace.events.as_slice(), trace.config.quota, &sketch)?;
     let text = lay_text(alloc, trace.config, &layout, &sketch)?;
     Ok(text)
 }

@@ -1,10 +1,9 @@
 //! What an event changes of what is drawn.
 ghost use Rattle.std.specs.Prelude.{◌≡◌, ◌≤◌, ◌++◌, Bool, OnOk};
-ghost use Rattle.hp_core.specs.Readers.{config_of};
-ghost use Rattle.hp_draw.specs.Following.{begun, blocked, has_moved, held_up, is_holder, mark_of};
-ghost use Rattle.hp_draw.specs.Following.{moved, next_of};
-ghost use Rattle.hp_draw.specs.Following.{numbers_of, phase_in, sign_of, standing_after, stay_in, stay_left, stay_of};
-ghost use Rattle.hp_draw.specs.Sketches.{listed};
+ghost use Rattle.hp_core.specs.Readers.{config_of, quota_of};
+ghost use Rattle.hp_draw.specs.Following.{begun, counted_use, failure_of, has_moved, is_failure, mark_of, moved, next_of, numbers_of};
+ghost use Rattle.hp_draw.specs.Following.{phase_in, sign_of, standing_after, stay_in, stay_left, stay_of};
+ghost use Rattle.hp_draw.specs.Lists.{listed};
 
 use hp_base::{Answer, Event, File, Index, Op, Task, Vpn};
 use hp_core::{Core, Outcome, Phase, Refusal};
@@ -19,8 +18,6 @@ pub(crate) struct Standing {
     /// The moment since which it stands so.
     pub(crate) since: u32,
     pub(crate) phase: Phase,
-    /// Who blocked it last, since it stands there.
-    pub(crate) holder: Option<Task>,
 }
 
 /// What comes behind a stay.
@@ -49,6 +46,10 @@ pub(crate) struct Stay {
 pub(crate) enum Sign {
     Denied,
     Killed,
+    /// A step was blocked by that task.
+    Blocked(Task),
+    /// A call ended so.
+    Failed(Answer),
     Resized(u32),
     Refused(Refusal),
 }
@@ -73,6 +74,8 @@ pub(crate) struct Numbers {
     pub(crate) bare: u32,
     /// What calls in flight owe to the reserve count.
     pub(crate) owed: i64,
+    /// The used count, and 0 where the pool has no quota.
+    pub(crate) used: u32,
 }
 
 /// The phase in which the call of the task in that column stands.
@@ -96,7 +99,6 @@ fn begun(at: u32, event: &Event, phase: Option<Phase>) -> Option<Standing>
             begun: at,
             since: at,
             phase,
-            holder: None,
         }),
         _ => None,
     }
@@ -110,43 +112,8 @@ fn moved(before: &Option<Standing>, at: u32, phase: Phase) -> Option<Standing>
         Some(standing) => Some(Standing {
             since: at,
             phase,
-            holder: None,
             ..*standing
         }),
-        None => None,
-    }
-}
-
-/// Whether that task is the holder.
-fn is_holder(holder: Option<Task>, task: Task) -> bool
-    ensures { result ≡ is_holder holder task }
-{
-    match holder {
-        Some(holder) => holder == task,
-        None => false,
-    }
-}
-
-/// Where a call stands that was blocked. Where the same holder blocks it again, it stands as before.
-fn held_up(standing: Standing, at: u32, holder: Task) -> Standing
-    ensures { result ≡ held_up standing at holder }
-{
-    if is_holder(standing.holder, holder) {
-        return standing;
-    }
-    Standing {
-        since: at,
-        holder: Some(holder),
-        ..standing
-    }
-}
-
-/// The same, if one is in flight.
-fn blocked(before: &Option<Standing>, at: u32, holder: Task) -> Option<Standing>
-    ensures { result ≡ blocked before.now at holder }
-{
-    match before {
-        Some(standing) => Some(held_up(*standing, at, holder)),
         None => None,
     }
 }
@@ -164,9 +131,10 @@ pub(crate) fn standing_after(
     match outcome {
         Outcome::Begun => begun(at, event, phase),
         Outcome::Moved(phase) => moved(before, at, *phase),
-        Outcome::Blocked(holder) => blocked(before, at, *holder),
         Outcome::Ended(_answer) => None,
-        Outcome::Marked | Outcome::Resized(_) | Outcome::Refused(_) => *before,
+        Outcome::Blocked(_) | Outcome::Marked | Outcome::Resized(_) | Outcome::Refused(_) => {
+            *before
+        }
     }
 }
 
@@ -258,6 +226,8 @@ pub(crate) fn add_stay(stays: &mut Vec<Stay>, stay: Option<Stay>) -> Result<(), 
 pub(crate) fn add_mark(marks: &mut Vec<Mark>, mark: Option<Mark>) -> Result<(), AllocError>
     ensures { OnOk result (marks.new.items ≡ marks.old.items ++ listed mark) }
 {
+    // The checker of borrows asks for a mention of the types that a mark holds.
+    let _inside: Option<(Sign, Task, Answer, Vpn, Refusal)> = None;
     if let Some(mark) = mark {
         marks.push(mark)?;
     }
@@ -273,6 +243,7 @@ fn sign_of(event: &Event, outcome: &Outcome) -> Option<Sign>
         (Event::Step(_task, false), _) => Some(Sign::Denied),
         (Event::Kill(_task), _) => Some(Sign::Killed),
         (_, Outcome::Resized(frames)) => Some(Sign::Resized(*frames)),
+        (_, Outcome::Blocked(holder)) => Some(Sign::Blocked(*holder)),
         _ => None,
     }
 }
@@ -287,6 +258,50 @@ pub(crate) fn mark_of(column: usize, at: u32, event: &Event, outcome: &Outcome) 
     }
 }
 
+/// Whether a call that ends so did not do what it was to do.
+fn is_failure(answer: Answer) -> bool
+    ensures { result ≡ is_failure answer }
+{
+    match answer {
+        Answer::Mapped(_) | Answer::Word(_) | Answer::Done => false,
+        Answer::Segv
+        | Answer::Beyond
+        | Answer::NoFrame
+        | Answer::NoQuota
+        | Answer::NoMemory
+        | Answer::Interrupted
+        | Answer::Killed
+        | Answer::BadFile
+        | Answer::BadRange
+        | Answer::NotMapped
+        | Answer::NoAddress => true,
+    }
+}
+
+/// The mark of a call that ends in a failure by an event.
+pub(crate) fn failure_of(column: usize, at: u32, outcome: &Outcome) -> Option<Mark>
+    ensures { result ≡ failure_of column at outcome.now }
+{
+    match outcome {
+        Outcome::Ended(answer) if is_failure(*answer) => Some(Mark {
+            column,
+            at,
+            sign: Sign::Failed(*answer),
+        }),
+        _ => None,
+    }
+}
+
+/// The used count, and 0 where the pool has no quota.
+fn counted_use(core: &Core) -> u32
+    ensures { result ≡ counted_use (quota_of core.now) core.now }
+{
+    match core.quota() {
+        Some(_) => core.used(),
+        None => 0,
+    }
+}
+
 /// The counts of a core.
 pub(crate) fn numbers_of(core: &Core, at: u32) -> Numbers
     ensures { result ≡ numbers_of core.now at }
@@ -298,5 +313,6 @@ pub(crate) fn numbers_of(core: &Core, at: u32) -> Numbers
         resv: tally.resv,
         bare: tally.reserved.saturating_sub(tally.pages),
         owed: core.owed(),
+        used: counted_use(core),
     }
 }

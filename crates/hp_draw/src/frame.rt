@@ -1,6 +1,6 @@
 //! What stands round the picture: its head, its legend, and the numbers of lines.
 ghost use Rattle.std.specs.Prelude.{◌≡◌, ◌++◌, OnOk, string_bytes};
-ghost use Rattle.hp_draw.specs.Frames.{head_text, legend_text, lines_text, number_at, number_text, numbers_text, background};
+ghost use Rattle.hp_draw.specs.Frames.{background, head_text, legend_text, lines_text, number_at, number_text, numbers_text, quota_legend};
 ghost use Rattle.hp_draw.specs.Frames.{size_text, style_text, view_text, whole_height_of, whole_width_of};
 
 use crate::layout::{Layout, TOP};
@@ -19,16 +19,23 @@ const LEGEND: &str =
 <rect class='punch' x='468' y='36' width='14' height='12'/><text x='486' y='46'>punch</text>
 <rect class='trunc' x='538' y='36' width='14' height='12'/><text x='556' y='46'>trunc</text>
 <rect class='exit' x='608' y='36' width='14' height='12'/><text x='626' y='46'>exit</text>
-<rect class='held' x='72' y='58' width='14' height='12'/><text x='90' y='68'>blocked, and by whom</text>
+<rect class='held' x='72' y='58' width='14' height='12'/><text x='90' y='68'>waits, and for whom</text>
 <path class='wait' d='M224 58V70'/><circle class='holder' cx='224' cy='70' r='3'/>
 <path class='denied' d='M250 60h10l-5 9z'/><text x='266' y='68'>denied its memory</text>
 <path class='killed' d='M388 60l8 8m0 -8l-8 8'/><text x='404' y='68'>killed</text>
 <circle class='refused' cx='464' cy='64' r='4'/><text x='474' y='68'>refused</text>
 <path class='resized' d='M540 58V71'/><text x='548' y='68'>resized</text>
+<path class='blocked' d='M612 64h8'/><text x='626' y='68'>blocked</text>
+<path class='failed' d='M692 59l5 5l-5 5l-5 -5z'/><text x='704' y='68'>failed</text>
 <path class='free' d='M72 86h22'/><text x='98' y='90'>free</text>
 <path class='resv' d='M140 86h22'/><text x='166' y='90'>resv: the reserve count</text>
 <path class='bare' d='M322 86h22'/><text x='348' y='90'>reserved without a page</text>
 <rect class='owed' x='506' y='80' width='22' height='12'/><text x='532' y='90'>owed by calls in flight: resv less reserved without a page</text>
+";
+
+/// The curve and the line of a pool with a quota.
+const QUOTA_LEGEND: &str = "<path class='used' d='M680 42h22'/><text x='706' y='46'>used</text>
+<path class='quota' d='M748 42h22'/><text x='774' y='46'>quota</text>
 ";
 
 /// How wide the picture is: at least as wide as its legend.
@@ -98,13 +105,28 @@ pub(crate) fn push_head(layout: &Layout, text: &mut String) -> Result<(), AllocE
     push_box("background", background(layout), text)
 }
 
+/// Appends the legend of the quota, where the pool has one.
+fn push_quota_legend(quota: Option<u32>, text: &mut String) -> Result<(), AllocError>
+    ensures { OnOk result (string_bytes text.new ≡ string_bytes text.old ++ quota_legend quota) }
+{
+    match quota {
+        Some(_) => text.push_str(QUOTA_LEGEND),
+        None => Ok(()),
+    }
+}
+
 /// Appends the title and the legend.
 #[tactic(auto, unfolding(crate::specs::Frames::legend_text))]
-pub(crate) fn push_legend(title: &str, text: &mut String) -> Result<(), AllocError>
-    ensures { OnOk result (string_bytes text.new ≡ string_bytes text.old ++ legend_text title.now) }
+pub(crate) fn push_legend(
+    title: &str,
+    quota: Option<u32>,
+    text: &mut String,
+) -> Result<(), AllocError>
+    ensures { OnOk result (string_bytes text.new ≡ string_bytes text.old ++ legend_text title.now quota) }
 {
     push_words("name", 8, 20, title, text)?;
-    text.push_str(LEGEND)
+    text.push_str(LEGEND)?;
+    push_quota_legend(quota, text)
 }
 
 /// Appends the number of a moment's line in the trace, whose header is line 1, and a thin line down the picture.

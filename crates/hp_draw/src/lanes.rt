@@ -1,16 +1,16 @@
 //! The lanes of tasks, and the stays in them.
 ghost use Rattle.std.specs.Prelude.{◌≡◌, ◌++◌, ◌+◌, ◌/◌, ◌<◌, ◌^◌, OnOk, codes, string_bytes, length};
 ghost use Rattle.hp_machine.specs.Text.{phase_word};
-ghost use Rattle.hp_draw.specs.Lanes.{blocked_words, call_text, class_of, ended_words, hatch_text, holder_text, label_of, label_text};
-ghost use Rattle.hp_draw.specs.Lanes.{box_of, lane_at, lane_place, lane_text, lanes_text, name_of, phase_text, place_of};
-ghost use Rattle.hp_draw.specs.Lanes.{stay_text, told_text, wait_text, between_text};
+ghost use Rattle.hp_draw.specs.Lanes.{call_text, class_of, ended_words, label_of, label_text, lane_at, lane_place, lane_text};
+ghost use Rattle.hp_draw.specs.Lanes.{lanes_text, linux_text, name_of, phase_of, phase_text, place_of, stay_text, stood_text, told_text};
 ghost use Rattle.hp_draw.specs.Shapes.{texts, words_text};
 
 use crate::following::{Next, Standing, Stay};
 use crate::layout::{LEFT, Layout};
-use crate::shapes::{Place, push_box, push_line, push_upright, push_words};
-use hp_base::{Op, Task};
+use crate::shapes::{Place, push_box, push_upright, push_words};
+use hp_base::Op;
 use hp_core::Phase;
+use hp_words::linux_name;
 use std::alloc::AllocError;
 
 /// How wide a letter is.
@@ -131,16 +131,6 @@ fn place_of(layout: &Layout, stay: &Stay) -> Place
     }
 }
 
-/// Appends who blocks a stay, if anyone.
-fn push_blocked(holder: Option<Task>, text: &mut String) -> Result<(), AllocError>
-    ensures { OnOk result (string_bytes text.new ≡ string_bytes text.old ++ blocked_words holder) }
-{
-    match holder {
-        Some(holder) => write!(text, ", blocked by task {holder}"),
-        None => Ok(()),
-    }
-}
-
 /// Appends how the call ended behind a stay, if it did.
 fn push_ended(next: Next, until: u32, text: &mut String) -> Result<(), AllocError>
     ensures { OnOk result (string_bytes text.new ≡ string_bytes text.old ++ ended_words next until) }
@@ -152,25 +142,39 @@ fn push_ended(next: Next, until: u32, text: &mut String) -> Result<(), AllocErro
     }
 }
 
-/// Appends what is told of a stay where the pointer rests on it.
-#[tactic(auto, unfolding(crate::specs::Lanes::told_text))]
-fn push_told(stay: &Stay, text: &mut String) -> Result<(), AllocError>
-    ensures { OnOk result (string_bytes text.new ≡ string_bytes text.old ++ told_text stay.now) }
+/// Appends which call stands where.
+#[tactic(auto, unfolding(crate::specs::Lanes::stood_text))]
+fn push_stood(column: usize, standing: &Standing, text: &mut String) -> Result<(), AllocError>
+    ensures { OnOk result (string_bytes text.new ≡ string_bytes text.old ++ stood_text column standing.now) }
 {
-    let column = stay.column;
     let Standing {
         op,
         begun: _,
         since,
         phase,
-        holder,
-    } = stay.standing;
+    } = *standing;
     let line = u64::from(since) + 2;
     write!(
         text,
         "<g><title>line {line}: {op} of task {column} at {phase}"
-    )?;
-    push_blocked(holder, text)?;
+    )
+}
+
+/// Appends what does in Linux what the next step does.
+fn push_linux(phase: Phase, text: &mut String) -> Result<(), AllocError>
+    ensures { OnOk result (string_bytes text.new ≡ string_bytes text.old ++ linux_text phase) }
+{
+    let name = linux_name(phase);
+    write!(text, " (Linux: {name})")
+}
+
+/// Appends what is told of a stay where the pointer rests on it.
+#[tactic(auto, unfolding(crate::specs::Lanes::told_text))]
+fn push_told(stay: &Stay, text: &mut String) -> Result<(), AllocError>
+    ensures { OnOk result (string_bytes text.new ≡ string_bytes text.old ++ told_text stay.now) }
+{
+    push_stood(stay.column, &stay.standing, text)?;
+    push_linux(stay.standing.phase, text)?;
     push_ended(stay.next, stay.until, text)?;
     text.push_str("</title>")
 }
@@ -197,27 +201,6 @@ fn push_phase(
     Ok(())
 }
 
-/// Appends the hatch of a stay that is blocked.
-#[tactic(auto, unfolding(crate::specs::Lanes::hatch_text))]
-fn push_hatch(holder: Option<Task>, place: Place, text: &mut String) -> Result<(), AllocError>
-    ensures { OnOk result (string_bytes text.new ≡ string_bytes text.old ++ hatch_text holder place) }
-{
-    match holder {
-        Some(_holder) => push_box("held", place, text),
-        None => Ok(()),
-    }
-}
-
-/// Appends the box of a stay, coloured by operation, and hatched where it is blocked.
-#[tactic(auto, unfolding(crate::specs::Lanes::box_of))]
-fn push_box_of(layout: &Layout, stay: &Stay, text: &mut String) -> Result<(), AllocError>
-    ensures { OnOk result (string_bytes text.new ≡ string_bytes text.old ++ box_of layout.now stay.now) }
-{
-    let place = place_of(layout, stay);
-    push_box(class_of(stay.standing.op), place, text)?;
-    push_hatch(stay.standing.holder, place, text)
-}
-
 /// Lays out the name of a phase.
 fn lay_phase(phase: Phase, word: &mut String) -> Result<(), AllocError>
     ensures { OnOk result (string_bytes word.new ≡ phase_word phase) }
@@ -226,19 +209,12 @@ fn lay_phase(phase: Phase, word: &mut String) -> Result<(), AllocError>
     write!(word, "{phase}")
 }
 
-/// Appends a stay: its box, and what is told of it.
-fn push_stay(
-    layout: &Layout,
-    stay: &Stay,
-    word: &mut String,
-    text: &mut String,
-) -> Result<(), AllocError>
+/// Appends a stay: its box, coloured by operation, and what is told of it.
+fn push_stay(layout: &Layout, stay: &Stay, text: &mut String) -> Result<(), AllocError>
     ensures { OnOk result (string_bytes text.new ≡ string_bytes text.old ++ stay_text layout.now stay.now) }
 {
-    lay_phase(stay.standing.phase, word)?;
     push_told(stay, text)?;
-    push_box_of(layout, stay, text)?;
-    push_phase(layout, stay, word.as_str(), text)?;
+    push_box(class_of(stay.standing.op), place_of(layout, stay), text)?;
     text.push_str("</g>\n")
 }
 
@@ -246,69 +222,40 @@ fn push_stay(
 pub(crate) fn push_stays(
     layout: &Layout,
     stays: &[Stay],
-    word: &mut String,
     text: &mut String,
 ) -> Result<(), AllocError>
     ensures { OnOk result (string_bytes text.new ≡ string_bytes text.old ++ texts (stay_text layout.now) stays.now) }
 {
     for stay in stays {
-        push_stay(layout, stay, word, text)?;
+        push_stay(layout, stay, text)?;
     }
     Ok(())
 }
 
-/// Appends the end of a line at its holder.
-#[tactic(auto, unfolding(crate::specs::Lanes::holder_text))]
-fn push_holder(x: u64, y: u64, text: &mut String) -> Result<(), AllocError>
-    ensures { OnOk result (string_bytes text.new ≡ string_bytes text.old ++ holder_text x y) }
-{
-    writeln!(text, "<circle class='holder' cx='{x}' cy='{y}' r='3'/>")
-}
-
-/// Appends a line from the edge of the lane `own` to that of another.
-fn push_between(
-    x: u64,
-    own: u64,
-    other: u64,
-    tall: u16,
+/// Appends the name of the phase of a stay. `word` is where it is laid out.
+fn push_phase_of(
+    layout: &Layout,
+    stay: &Stay,
+    word: &mut String,
     text: &mut String,
 ) -> Result<(), AllocError>
-    requires own { own < 2 ^ 32 }
-    requires other { other < 2 ^ 32 }
-    ensures { OnOk result (string_bytes text.new ≡ string_bytes text.old ++ between_text x own other tall) }
+    ensures { OnOk result (string_bytes text.new ≡ string_bytes text.old ++ phase_of layout.now stay.now) }
 {
-    let tall = u64::from(tall);
-    if other < own {
-        push_line("wait", x, own, other + tall, text)?;
-        return push_holder(x, other + tall, text);
-    }
-    push_line("wait", x, own + tall, other, text)?;
-    push_holder(x, other, text)
+    lay_phase(stay.standing.phase, word)?;
+    push_phase(layout, stay, word.as_str(), text)
 }
 
-/// Appends the line from a stay to its holder, if it is blocked.
-fn push_wait(layout: &Layout, stay: &Stay, text: &mut String) -> Result<(), AllocError>
-    ensures { OnOk result (string_bytes text.new ≡ string_bytes text.old ++ wait_text layout.now stay.now) }
-{
-    let Some(holder) = stay.standing.holder else {
-        return Ok(());
-    };
-    let x = layout.x(stay.standing.since) + 4;
-    let own = layout.top(stay.column);
-    let other = layout.top(holder.number() as usize);
-    push_between(x, own, other, layout.tall, text)
-}
-
-/// Appends the lines from all stays that are blocked.
-pub(crate) fn push_waits(
+/// Appends the names of the phases of all stays.
+pub(crate) fn push_phases(
     layout: &Layout,
     stays: &[Stay],
+    word: &mut String,
     text: &mut String,
 ) -> Result<(), AllocError>
-    ensures { OnOk result (string_bytes text.new ≡ string_bytes text.old ++ texts (wait_text layout.now) stays.now) }
+    ensures { OnOk result (string_bytes text.new ≡ string_bytes text.old ++ texts (phase_of layout.now) stays.now) }
 {
     for stay in stays {
-        push_wait(layout, stay, text)?;
+        push_phase_of(layout, stay, word, text)?;
     }
     Ok(())
 }

@@ -1,7 +1,8 @@
 //! Where things stand in the picture.
-ghost use Rattle.std.specs.Prelude.{◌≡◌, ◌≤◌, ◌<◌, ◌^◌, All, IfOk, IsTrue, None, false, true, get_or, is_some, length, map, slice_set};
+ghost use Rattle.std.specs.Prelude.{◌≡◌, ◌≤◌, ◌<◌, ◌^◌, ◌⊎◌, All, IfOk, IsTrue, None, false, true, get_or, is_some, length, map, slice_set};
+ghost use Rattle.std.specs.Prelude.{unwrap_or};
 ghost use Rattle.hp_draw.specs.Layouts.{x_of, next_x_of, width_of, top_of, upper_base_of, lower_base_of, upper_of, lower_of};
-ghost use Rattle.hp_draw.specs.Places.{HasPlaces, HaveRoom, InColumns, StandBelow};
+ghost use Rattle.hp_draw.specs.Places.{FindsNoOther, FitsOrIsFar, HasPlaces, HaveRoom, InColumns, IsLower, IsNear, IsUpper, StandBelow};
 ghost use Rattle.hp_draw.specs.Sketches.{seen};
 
 use crate::following::Numbers;
@@ -84,6 +85,8 @@ fn columns_seen(alloc: Global, sketch: &Sketch) -> Result<Vec<bool>, AllocError>
     ensures count { IfOk result (λ found. length found.items ≡ length sketch.now.standings.items) }
     ensures stays { IfOk result (λ found. All (λ s. IsTrue (get_or found.items s.column false)) sketch.now.stays.items) }
     ensures marks { IfOk result (λ found. All (λ m. IsTrue (get_or found.items m.column false)) sketch.now.marks.items) }
+    ensures waits { IfOk result (λ found. All (λ w. IsTrue (get_or found.items w.column false)) sketch.now.waits.ended.items) }
+    ensures others { IfOk result (λ found. FindsNoOther (seen sketch.now) found.items) }
 {
     let mut seen = Vec::new(alloc);
     for _column in 0..sketch.standings.len() {
@@ -94,6 +97,9 @@ fn columns_seen(alloc: Global, sketch: &Sketch) -> Result<Vec<bool>, AllocError>
     }
     for mark in &sketch.marks {
         appear(seen.as_mut_slice(), mark.column);
+    }
+    for wait in &sketch.waits.ended {
+        appear(seen.as_mut_slice(), wait.column);
     }
     Ok(seen)
 }
@@ -122,28 +128,43 @@ fn place_lanes(
     Ok((tops, foot))
 }
 
-/// The most of each kind of count.
+/// The most of each kind of count, and at least 1.
 fn most_of(numbers: &[Numbers]) -> (u32, u32)
-    ensures { All (HaveRoom result.0 result.1) numbers.now }
+    ensures room { All (HaveRoom result.0 result.1) numbers.now }
+    ensures upper { IsUpper numbers.now result.0 }
+    ensures lower { IsLower numbers.now result.1 }
 {
     let (mut most_free, mut most_resv) = (1_u32, 1_u32);
     for counts in numbers {
-        most_free = most_free.max(counts.free).max(counts.resv);
+        most_free = most_free.max(counts.free).max(counts.resv).max(counts.used);
         most_resv = most_resv.max(counts.resv).max(counts.bare);
     }
     (most_free, most_resv)
+}
+
+/// The most that the upper curves show, with the quota unless that is more than four times as much as the counts.
+fn with_quota(most_free: u32, quota: Option<u32>) -> u32
+    ensures more { most_free ≤ result }
+    ensures quota { FitsOrIsFar (unwrap_or quota 0) result }
+    ensures least { (result ≡ most_free) ⊎ IsNear quota most_free result }
+{
+    match quota {
+        Some(quota) if quota <= most_free.saturating_mul(4) => most_free.max(quota),
+        _ => most_free,
+    }
 }
 
 /// Lays the picture out.
 pub(crate) fn lay_out(
     alloc: Global,
     events: &[Event],
+    quota: Option<u32>,
     sketch: &Sketch,
 ) -> Result<Layout, AllocError>
     requires events { length events.now ≤ MOST_EVENTS }
     requires columns { InColumns (seen sketch.now) }
     requires few { length sketch.now.standings.items ≤ 65 }
-    ensures { IfOk result (HasPlaces (length events.now) (seen sketch.now)) }
+    ensures { IfOk result (HasPlaces quota (length events.now) (seen sketch.now)) }
 {
     let events = events.len() as u32;
     let step = step_of(events);
@@ -158,7 +179,7 @@ pub(crate) fn lay_out(
         tall,
         tops,
         foot,
-        most_free,
+        most_free: with_quota(most_free, quota),
         most_resv,
     })
 }

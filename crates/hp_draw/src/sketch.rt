@@ -3,12 +3,15 @@ ghost use Rattle.std.specs.Prelude.{◌≡◌, ◌≤◌, ◌+◌, ◌++◌, Non
 ghost use Rattle.hp_base.specs.Text.{sizes};
 ghost use Rattle.hp_core.specs.Readers.{config_of};
 ghost use Rattle.hp_draw.specs.Following.{stay_in};
-ghost use Rattle.hp_draw.specs.Sketches.{IsDrawn, after, listed, nothing_drawn, seen, stays_in, with_stays_in};
+ghost use Rattle.hp_draw.specs.Lists.{listed};
+ghost use Rattle.hp_draw.specs.Sketches.{IsDrawn, after, ended, nothing_drawn, seen, stays_in};
+ghost use Rattle.hp_draw.specs.Waits.{AreHolders};
 
 use crate::following::{
-    Mark, Numbers, Standing, Stay, add_mark, add_stay, mark_of, numbers_of, phase_in,
+    Mark, Numbers, Standing, Stay, add_mark, add_stay, failure_of, mark_of, numbers_of, phase_in,
     standing_after, stay_in, stay_left,
 };
+use crate::waits::Waits;
 use hp_base::{Answer, Event, File, Index, Op, Task, Vpn};
 use hp_core::{Core, Outcome, Phase};
 use hp_text::{MOST_EVENTS, Trace, column_of};
@@ -25,6 +28,8 @@ pub(crate) struct Sketch {
     pub(crate) marks: Vec<Mark>,
     /// The counts behind each event.
     pub(crate) numbers: Vec<Numbers>,
+    /// How long each task waited for whom.
+    pub(crate) waits: Waits,
 }
 
 /// A place for each column, in which nothing stands.
@@ -50,6 +55,7 @@ fn empty_sketch(alloc: Global, tasks: u32) -> Result<Sketch, AllocError>
         stays: Vec::new(alloc),
         marks: Vec::new(alloc),
         numbers: Vec::new(alloc),
+        waits: Waits::new(alloc),
     })
 }
 
@@ -82,8 +88,13 @@ fn add_event(
     outcome: &Outcome,
     core: &Core,
 ) -> Result<(), AllocError>
-    ensures { OnOk result (seen sketch.new
-        ≡ after at (seen sketch.old) (record { event = event.now; outcome = outcome.now; core = core.now })) }
+    ensures drawn { OnOk result (seen sketch.new ≡ after at (seen sketch.old) (record {
+      event = event.now;
+      outcome = outcome.now;
+      core = core.now;
+      holders = sketch.new.waits.holders.items;
+    })) }
+    ensures holders { OnOk result (AreHolders core.now sketch.new.waits.holders.items) }
 {
     let config = core.config();
     let number = column_of(config.tasks, event);
@@ -96,8 +107,9 @@ fn add_event(
     )?;
     set_standing(sketch.standings.as_mut_slice(), column, now);
     add_mark(&mut sketch.marks, mark_of(column, at, event, outcome))?;
+    add_mark(&mut sketch.marks, failure_of(column, at, outcome))?;
     sketch.numbers.push(numbers_of(core, at))?;
-    Ok(())
+    sketch.waits.follow(core, at)
 }
 
 /// Adds the stay of the call of a column, if it is in flight at the end.
@@ -126,11 +138,12 @@ fn add_stays_in(
     Ok(())
 }
 
-/// Ends a sketch: adds the stays of the calls that are in flight.
+/// Ends a sketch: adds the stays of the calls that are in flight, and the waits that go on.
 fn end_sketch(sketch: &mut Sketch, at: u32) -> Result<(), AllocError>
-    ensures { OnOk result (seen sketch.new ≡ with_stays_in at (seen sketch.old)) }
+    ensures { OnOk result (seen sketch.new ≡ ended at (seen sketch.old)) }
 {
-    add_stays_in(sketch.standings.as_slice(), at, &mut sketch.stays)
+    add_stays_in(sketch.standings.as_slice(), at, &mut sketch.stays)?;
+    sketch.waits.end(at)
 }
 
 /// Runs the trace, and keeps what is to be drawn of it.

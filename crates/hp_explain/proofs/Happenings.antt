@@ -1,4 +1,4 @@
--- Events that happen one after the other, and their rows.
+-- Events that happen one after the other, and the texts that tell of them.
 use Rattle.std.proofs.Common.{◌≡◌, ℕ, suc, ◌+◌, ◌<◌, ◌≤◌, List, [], ◌∷◌, ◌++◌, length, take, drop, get_or, Option}
 use Rattle.std.proofs.Common.{refl, sym, ap, subst, ◌∙◌}
 use Rattle.std.proofs.Common.{append_assoc, arith, length-append}
@@ -15,8 +15,8 @@ use Rattle.hp_text.specs.Writing.{Wrote, IsWriteFault}
 use Rattle.hp_text.specs.declared.fault.ReplayFault.{ReplayFault}
 use Rattle.hp_text.specs.declared.fault.ReplayFault.TheVariants.{Write}
 use Rattle.hp_text.proofs.Writes.{Wrote-behind}
-use Rattle.hp_explain.specs.Rows.{Happening, row_text, rows_text}
-use Rattle.hp_explain.specs.Explaining.{events_of, Happened, Happens, RowWritten, RowPartlyWritten, RowsWritten, RowsPartlyWritten}
+use Rattle.hp_explain.specs.Happenings.{Happening, Happened, Happens, Telling, events_of, texts_of}
+use Rattle.hp_explain.specs.Happenings.{EventTold, EventPartlyTold, EventsTold, EventsPartlyTold}
 use Rattle.hp_explain.specs.Waits.{AreHolders}
 
 -- one event more happens
@@ -42,37 +42,37 @@ length_of : (list : List Happening) → length (events_of list) ≡ length list
 length_of [] = refl
 length_of (k ∷ list) = ap suc (length_of list)
 
--- its row stands behind those before it
-row_more : (widths : List ℕ) (line : ℕ) (waited : List (Option ℕ)) (list : List Happening) (h : Happening)
-    → rows_text widths line waited (list ++ (h ∷ []))
-    ≡ rows_text widths line waited list ++ row_text widths (line + length list) (waits_after waited list) h
-unfolding rows_text
-row_more widths line waited [] h =
+-- its text stands behind those before it
+text_more : (tell : Telling) (line : ℕ) (waited : List (Option ℕ)) (list : List Happening) (h : Happening)
+    → texts_of tell line waited (list ++ (h ∷ []))
+    ≡ texts_of tell line waited list ++ tell (line + length list) (waits_after waited list) h
+unfolding texts_of
+text_more tell line waited [] h =
     let here : line ≡ line + 0 = omega arith in
-    append-nil (row_text widths line waited h) ∙ ap (λ (n : ℕ). row_text widths n waited h) here
-row_more widths line waited (k ∷ list) h =
+    append-nil (tell line waited h) ∙ ap (λ (n : ℕ). tell n waited h) here
+text_more tell line waited (k ∷ list) h =
     let next : suc line + length list ≡ line + suc (length list) = omega arith in
     let last = waits_after k.holders list in
-    ap (λ (x : List ℕ). row_text widths line waited k ++ x)
-    (row_more widths (suc line) k.holders list h
-    ∙ ap (λ (n : ℕ). rows_text widths (suc line) k.holders list ++ row_text widths n last h) next)
-    ∙ sym (append_assoc (row_text widths line waited k) (rows_text widths (suc line) k.holders list)
-    (row_text widths (line + suc (length list)) last h))
+    ap (λ (x : List ℕ). tell line waited k ++ x)
+    (text_more tell (suc line) k.holders list h
+    ∙ ap (λ (n : ℕ). texts_of tell (suc line) k.holders list ++ tell n last h) next)
+    ∙ sym (append_assoc (tell line waited k) (texts_of tell (suc line) k.holders list)
+    (tell (line + suc (length list)) last h))
 
--- the first n events happened, and their rows are written
-pub record RowsSoFar (widths : List ℕ) (events : List Event) (n : ℕ) (old now : CoreState) (waited waits : List (Option ℕ))
+-- the first n events happened, and their texts are written
+pub record ToldSoFar (tell : Telling) (events : List Event) (n : ℕ) (old now : CoreState) (waited waits : List (Option ℕ))
     (before after : Option (List ℕ)) : Type 0 where
   pub happenings : List Happening
   pub are_events : events_of happenings ≡ take n events
   pub count : length happenings ≡ n
   pub happens : Happens old happenings now
   pub last : waits_after waited happenings ≡ waits
-  pub wrote : Appends before after (rows_text widths 2 waited happenings)
+  pub wrote : Appends before after (texts_of tell 2 waited happenings)
 
-pub no_row : (widths : List ℕ) (events : List Event) (old : CoreState) (waited : List (Option ℕ)) (o : Option (List ℕ))
-    → RowsSoFar widths events 0 old old waited waited o o
-unfolding rows_text
-no_row widths events old waited o =
+pub none_told : (tell : Telling) (events : List Event) (old : CoreState) (waited : List (Option ℕ)) (o : Option (List ℕ))
+    → ToldSoFar tell events 0 old old waited waited o o
+unfolding texts_of
+none_told tell events old waited o =
     record { happenings = []; are_events = refl; count = refl; happens = refl; last = refl; wrote = Appends-nil o }
 
 -- the events up to this one are those before it, and it
@@ -80,22 +80,22 @@ up_to : (events : List Event) (n : ℕ) (e : Event) → n < length events → e 
     → take (n + 1) events ≡ take n events ++ (e ∷ [])
 up_to events n e lt is = take_more events n e lt ∙ ap (λ (x : Event). take n events ++ (x ∷ [])) (sym is)
 
--- and the row behind those that are written
-row_behind : (widths : List ℕ) (events : List Event) (n line : ℕ) (old now : CoreState) (waited waits : List (Option ℕ))
-    (before after : Option (List ℕ)) (s : RowsSoFar widths events n old now waited waits before after) (h : Happening) → line ≡ n + 2
-    → rows_text widths 2 waited (s.happenings ++ (h ∷ [])) ≡ rows_text widths 2 waited s.happenings ++ row_text widths line waits h
-row_behind widths events n line old now waited waits before after s h number =
+-- and its text behind those that are written
+text_behind : (tell : Telling) (events : List Event) (n line : ℕ) (old now : CoreState) (waited waits : List (Option ℕ))
+    (before after : Option (List ℕ)) (s : ToldSoFar tell events n old now waited waits before after) (h : Happening) → line ≡ n + 2
+    → texts_of tell 2 waited (s.happenings ++ (h ∷ [])) ≡ texts_of tell 2 waited s.happenings ++ tell line waits h
+text_behind tell events n line old now waited waits before after s h number =
     let counted = s.count in
     let here : 2 + length s.happenings ≡ line = omega arith in
-    row_more widths 2 waited s.happenings h
-    ∙ ap (λ (k : ℕ). rows_text widths 2 waited s.happenings ++ row_text widths k (waits_after waited s.happenings) h) here
-    ∙ ap (λ (w : List (Option ℕ)). rows_text widths 2 waited s.happenings ++ row_text widths line w h) s.last
+    text_more tell 2 waited s.happenings h
+    ∙ ap (λ (k : ℕ). texts_of tell 2 waited s.happenings ++ tell k (waits_after waited s.happenings) h) here
+    ∙ ap (λ (w : List (Option ℕ)). texts_of tell 2 waited s.happenings ++ tell line w h) s.last
 
-pub one_row : (widths : List ℕ) (events : List Event) (n line : ℕ) (e : Event) (old mid new : CoreState)
+pub one_told : (tell : Telling) (events : List Event) (n line : ℕ) (e : Event) (old mid new : CoreState)
     (waited waits next : List (Option ℕ)) (before now after : Option (List ℕ)) → n < length events → e ≡ get_or events n e → line ≡ n + 2
-    → RowsSoFar widths events n old mid waited waits before now → RowWritten widths line e mid new waits next now after
-    → RowsSoFar widths events (n + 1) old new waited next before after
-one_row widths events n line e old mid new waited waits next before now after lt is number s r =
+    → ToldSoFar tell events n old mid waited waits before now → EventTold tell line e mid new waits next now after
+    → ToldSoFar tell events (n + 1) old new waited next before after
+one_told tell events n line e old mid new waited waits next before now after lt is number s r =
     record {
       happenings = s.happenings ++ (r.happening ∷ []);
       are_events =
@@ -107,8 +107,9 @@ one_row widths events n line e old mid new waited waits next before now after lt
       last = waits_more waited s.happenings r.happening ∙ r.are_holders;
       wrote =
           subst (λ (x : List ℕ). Appends before after x)
-          (sym (row_behind widths events n line old mid waited waits before now s r.happening number))
-          (Appends-trans before now after (rows_text widths 2 waited s.happenings) (row_text widths line waits r.happening) s.wrote r.wrote);
+          (sym (text_behind tell events n line old mid waited waits before now s r.happening number))
+          (Appends-trans before now after (texts_of tell 2 waited s.happenings)
+          (tell line waits r.happening) s.wrote r.wrote);
     }
   where
     counted : length (s.happenings ++ (r.happening ∷ [])) ≡ n + 1
@@ -117,17 +118,17 @@ one_row widths events n line e old mid new waited waits next before now after lt
         let before_it = s.count in
         omega arith
 
-pub all_rows : (widths : List ℕ) (events : List Event) (n : ℕ) (old new : CoreState) (waited waits : List (Option ℕ))
-    (before after : Option (List ℕ)) → length events ≤ n → RowsSoFar widths events n old new waited waits before after
-    → RowsWritten widths 2 events old new waited before after
-all_rows widths events n old new waited waits before after le s =
+pub all_told : (tell : Telling) (events : List Event) (n : ℕ) (old new : CoreState) (waited waits : List (Option ℕ))
+    (before after : Option (List ℕ)) → length events ≤ n → ToldSoFar tell events n old new waited waits before after
+    → EventsTold tell 2 events old new waited before after
+all_told tell events n old new waited waits before after le s =
     record { happenings = s.happenings; are_events = s.are_events ∙ take_all n events le; happens = s.happens; wrote = s.wrote }
 
 -- the next event didn't happen
-pub stopped_before : (widths : List ℕ) (events : List Event) (n : ℕ) (old mid : CoreState) (waited waits : List (Option ℕ))
-    (before now after : Option (List ℕ)) → RowsSoFar widths events n old mid waited waits before now → Keeps now after
-    → RowsPartlyWritten widths 2 events old waited before after
-stopped_before widths events n old mid waited waits before now after s kept =
+pub stopped_before : (tell : Telling) (events : List Event) (n : ℕ) (old mid : CoreState) (waited waits : List (Option ℕ))
+    (before now after : Option (List ℕ)) → ToldSoFar tell events n old mid waited waits before now → Keeps now after
+    → EventsPartlyTold tell 2 events old waited before after
+stopped_before tell events n old mid waited waits before now after s kept =
     record {
       happenings = s.happenings;
       rest = drop n events;
@@ -136,19 +137,20 @@ stopped_before widths events n old mid waited waits before now after s kept =
       happens = s.happens;
       wrote =
           record {
-            front = rows_text widths 2 waited s.happenings;
+            front = texts_of tell 2 waited s.happenings;
             back = [];
-            parts = sym (append-nil (rows_text widths 2 waited s.happenings));
-            appends = Appends-kept before now after (rows_text widths 2 waited s.happenings) s.wrote kept;
+            parts = sym (append-nil (texts_of tell 2 waited s.happenings));
+            appends = Appends-kept before now after (texts_of tell 2 waited s.happenings) s.wrote kept;
           };
     }
 
--- or its row was not written to its end
-pub stopped_in : (widths : List ℕ) (events : List Event) (n line : ℕ) (e : Event) (old mid : CoreState) (waited waits : List (Option ℕ))
+-- or its text was not written to its end
+pub stopped_in : (tell : Telling) (events : List Event) (n line : ℕ) (e : Event) (old mid : CoreState)
+    (waited waits : List (Option ℕ))
     (before now after : Option (List ℕ)) → n < length events → e ≡ get_or events n e → line ≡ n + 2
-    → RowsSoFar widths events n old mid waited waits before now → RowPartlyWritten widths line e mid waits now after
-    → RowsPartlyWritten widths 2 events old waited before after
-stopped_in widths events n line e old mid waited waits before now after lt is number s r =
+    → ToldSoFar tell events n old mid waited waits before now → EventPartlyTold tell line e mid waits now after
+    → EventsPartlyTold tell 2 events old waited before after
+stopped_in tell events n line e old mid waited waits before now after lt is number s r =
     record {
       happenings = s.happenings ++ (r.happening ∷ []);
       rest = drop (n + 1) events;
@@ -162,19 +164,20 @@ stopped_in widths events n line e old mid waited waits before now after lt is nu
       happens = happens_more old mid r.happening.core s.happenings r.happening s.happens r.happened refl;
       wrote =
           subst (λ (x : List ℕ). Wrote before after x)
-          (sym (row_behind widths events n line old mid waited waits before now s r.happening number))
-          (Wrote-behind before now after (rows_text widths 2 waited s.happenings) (row_text widths line waits r.happening) s.wrote r.wrote);
+          (sym (text_behind tell events n line old mid waited waits before now s r.happening number))
+          (Wrote-behind before now after (texts_of tell 2 waited s.happenings)
+          (tell line waits r.happening) s.wrote r.wrote);
     }
 
--- ---- one row
+-- ---- one event
 
--- an event that happened, and whose row was written
-pub row_written : {A : Type 0} (r : Result A ReplayFault) (widths : List ℕ) (line : ℕ) (e : Event) (outcome : Outcome)
-    (old new : CoreState) (waited waits : List (Option ℕ)) (before after : Option (List ℕ)) (text row : List ℕ) → Row old e outcome new
-    → AreHolders new waits → text ≡ row
-    → row ≡ row_text widths line waited (record { event = e; outcome = outcome; core = new; holders = waits })
-    → OnOk r (Appends before after text) → OnOk r (RowWritten widths line e old new waited waits before after)
-row_written (Ok x) widths line e outcome old new waited waits before after text row happens holders same is wrote =
+-- an event that happened, and whose text was written
+pub event_told : {A : Type 0} (r : Result A ReplayFault) (tell : Telling) (line : ℕ) (e : Event) (outcome : Outcome)
+    (old new : CoreState) (waited waits : List (Option ℕ)) (before after : Option (List ℕ)) (text told : List ℕ) → Row old e outcome new
+    → AreHolders new waits → text ≡ told
+    → told ≡ tell line waited (record { event = e; outcome = outcome; core = new; holders = waits })
+    → OnOk r (Appends before after text) → OnOk r (EventTold tell line e old new waited waits before after)
+event_told (Ok x) tell line e outcome old new waited waits before after text told happens holders same is wrote =
     record {
       happening = record { event = e; outcome = outcome; core = new; holders = waits };
       is_event = refl;
@@ -183,17 +186,17 @@ row_written (Ok x) widths line e outcome old new waited waits before after text 
       happened = (happens, holders);
       wrote = subst (λ (x : List ℕ). Appends before after x) (same ∙ is) wrote;
     }
-row_written (Err fault) widths line e outcome old new waited waits before after text row happens holders same is wrote = tt
+event_told (Err fault) tell line e outcome old new waited waits before after text told happens holders same is wrote = tt
 
 -- or in part
-pub row_stopped : {A : Type 0} (r : Result A ReplayFault) (widths : List ℕ) (line : ℕ) (e : Event) (outcome : Outcome)
-    (old new : CoreState) (waited waits : List (Option ℕ)) (before after : Option (List ℕ)) (text row : List ℕ) → Row old e outcome new
-    → AreHolders new waits → text ≡ row
-    → row ≡ row_text widths line waited (record { event = e; outcome = outcome; core = new; holders = waits })
+pub event_stopped : {A : Type 0} (r : Result A ReplayFault) (tell : Telling) (line : ℕ) (e : Event) (outcome : Outcome)
+    (old new : CoreState) (waited waits : List (Option ℕ)) (before after : Option (List ℕ)) (text told : List ℕ) → Row old e outcome new
+    → AreHolders new waits → text ≡ told
+    → told ≡ tell line waited (record { event = e; outcome = outcome; core = new; holders = waits })
     → IfErr r (λ fault. (fault ≡ Write) × Wrote before after text)
-    → IfErr r (λ fault. IsWriteFault fault × (Keeps before after ⊎ RowPartlyWritten widths line e old waited before after))
-row_stopped (Ok x) widths line e outcome old new waited waits before after text row happens holders same is wrote = tt
-row_stopped (Err fault) widths line e outcome old new waited waits before after text row happens holders same is wrote = (
+    → IfErr r (λ fault. IsWriteFault fault × (Keeps before after ⊎ EventPartlyTold tell line e old waited before after))
+event_stopped (Ok x) tell line e outcome old new waited waits before after text told happens holders same is wrote = tt
+event_stopped (Err fault) tell line e outcome old new waited waits before after text told happens holders same is wrote = (
   subst (λ (f : ReplayFault). IsWriteFault f) (sym wrote.0) tt,
   inr (record {
     happening = record { event = e; outcome = outcome; core = new; holders = waits };
@@ -203,12 +206,13 @@ row_stopped (Err fault) widths line e outcome old new waited waits before after 
   }),
 )
 
--- where an event stopped, the rows did
-pub stopped_at : (widths : List ℕ) (events : List Event) (n line : ℕ) (e : Event) (old mid : CoreState) (waited waits : List (Option ℕ))
+-- where an event stopped, the texts did
+pub stopped_at : (tell : Telling) (events : List Event) (n line : ℕ) (e : Event) (old mid : CoreState)
+    (waited waits : List (Option ℕ))
     (before now after : Option (List ℕ)) → n < length events → e ≡ get_or events n e → line ≡ n + 2
-    → RowsSoFar widths events n old mid waited waits before now
-    → Keeps now after ⊎ RowPartlyWritten widths line e mid waits now after → RowsPartlyWritten widths 2 events old waited before after
-stopped_at widths events n line e old mid waited waits before now after lt is number s (inl kept) =
-    stopped_before widths events n old mid waited waits before now after s kept
-stopped_at widths events n line e old mid waited waits before now after lt is number s (inr r) =
-    stopped_in widths events n line e old mid waited waits before now after lt is number s r
+    → ToldSoFar tell events n old mid waited waits before now
+    → Keeps now after ⊎ EventPartlyTold tell line e mid waits now after → EventsPartlyTold tell 2 events old waited before after
+stopped_at tell events n line e old mid waited waits before now after lt is number s (inl kept) =
+    stopped_before tell events n old mid waited waits before now after s kept
+stopped_at tell events n line e old mid waited waits before now after lt is number s (inr r) =
+    stopped_in tell events n line e old mid waited waits before now after lt is number s r

@@ -1,6 +1,6 @@
 -- Columns that are laid out one by one.
 use Rattle.std.proofs.Common.{◌≡◌, ℕ, suc, ◌+◌, List, ◌∷◌, [], ◌++◌, sym, ap, ◌∙◌, append_assoc, add-one}
-use Rattle.std.specs.Prelude.{◌==◌, Option, None, Result, Ok, Err, OnOk, codes, slice_index_or}
+use Rattle.std.specs.Prelude.{◌==◌, Bool, Option, None, Result, Ok, Err, OnOk, codes, slice_index_or}
 use Rattle.std.specs.Fmt.{decimal}
 use Rattle.std.proofs.lemmas.List.{append-nil}
 use Rattle.hp_core.specs.Acquiring.{acquired_of}
@@ -34,15 +34,15 @@ unfolding columns
 one_column widths own text n old now new is e =
     rw (add-one) (more_text old (columns widths own text n) (column (slice_index_or widths n 0) (n == own) text) now new is e)
 
-pub no_title : (widths : List ℕ) (old : List ℕ) → old ≡ old ++ titles widths 0
+pub no_title : (compact : Bool) (widths : List ℕ) (old : List ℕ) → old ≡ old ++ titles compact widths 0
 unfolding titles
-no_title widths old = sym (append-nil old)
+no_title compact widths old = sym (append-nil old)
 
-pub one_title : (widths : List ℕ) (n : ℕ) (old now new : List ℕ) → now ≡ old ++ titles widths n
-    → new ≡ now ++ titled (slice_index_or widths n 0) n → new ≡ old ++ titles widths (n + 1)
+pub one_title : (compact : Bool) (widths : List ℕ) (n : ℕ) (old now new : List ℕ) → now ≡ old ++ titles compact widths n
+    → new ≡ now ++ titled compact (slice_index_or widths n 0) n → new ≡ old ++ titles compact widths (n + 1)
 unfolding titles
-one_title widths n old now new is e =
-    rw (add-one) (more_text old (titles widths n) (titled (slice_index_or widths n 0) n) now new is e)
+one_title compact widths n old now new is e =
+    rw (add-one) (more_text old (titles compact widths n) (titled compact (slice_index_or widths n 0) n) now new is e)
 
 pub no_call : (core : CoreState) (old : List ℕ) → old ≡ old ++ calls_text core 0
 unfolding calls_text
@@ -55,18 +55,19 @@ one_call core n task old now new number is e =
     rw (add-one) (more_text old (calls_text core n) (if_in_flight core (suc n) (phase_of core (suc n))) now new is
     (e ∙ ap (λ (k : ℕ). now ++ if_in_flight core k (phase_of core k)) (number ∙ add-one n)))
 
-pub no_change : (core : CoreState) (before after : List (Option ℕ)) (old : List ℕ) → old ≡ old ++ changes_text core before after 0
+pub no_change : (compact : Bool) (core : CoreState) (before after : List (Option ℕ)) (old : List ℕ)
+    → old ≡ old ++ changes_text compact core before after 0
 unfolding changes_text
-no_change core before after old = sym (append-nil old)
+no_change compact core before after old = sym (append-nil old)
 
-pub one_change : (core : CoreState) (before after : List (Option ℕ)) (n task : ℕ) (x y : Option ℕ) (old now new : List ℕ)
+pub one_change : (compact : Bool) (core : CoreState) (before after : List (Option ℕ)) (n task : ℕ) (x y : Option ℕ) (old now new : List ℕ)
     → task ≡ n + 1 → x ≡ slice_index_or before n None → y ≡ slice_index_or after n None
-    → now ≡ old ++ changes_text core before after n → new ≡ now ++ change_text core task x y
-    → new ≡ old ++ changes_text core before after (n + 1)
+    → now ≡ old ++ changes_text compact core before after n → new ≡ now ++ change_text compact core task x y
+    → new ≡ old ++ changes_text compact core before after (n + 1)
 unfolding changes_text
-one_change core before after n task x y old now new number is_x is_y is e =
-    let part : ℕ → Option ℕ → Option ℕ → List ℕ = λ k a b. change_text core k a b in
-    rw (add-one) (more_text old (changes_text core before after n)
+one_change compact core before after n task x y old now new number is_x is_y is e =
+    let part : ℕ → Option ℕ → Option ℕ → List ℕ = λ k a b. change_text compact core k a b in
+    rw (add-one) (more_text old (changes_text compact core before after n)
     (part (suc n) (slice_index_or before n None) (slice_index_or after n None)) now new is
     (e ∙ ap (λ (k : ℕ). now ++ part k x y) (number ∙ add-one n)
     ∙ ap (λ (a : Option ℕ). now ++ part (suc n) a y) is_x
@@ -84,12 +85,12 @@ wait_laid row front a mid b back last =
 
 pub one_wait : {A E : Type 0} (r : Result A E) (core : CoreState) (task holder : ℕ) (wanted : Acquired) (row now new : List ℕ)
     → wanted ≡ acquired_of core task
-    → now ≡ row ++ (codes "  task " ++ (decimal task ++ (codes " waits for " ++ (decimal holder ++ codes ": "))))
+    → now ≡ row ++ (codes "task " ++ (decimal task ++ (codes " waits for " ++ (decimal holder ++ codes ": "))))
     → OnOk r (new ≡ now ++ wanted_text core wanted) → OnOk r (new ≡ row ++ wait_text core task holder)
 one_wait (Ok said) core task holder wanted row now new its is more =
     let text : Acquired → List ℕ = λ w. wanted_text core w in
     more ∙ ap (λ (x : List ℕ). x ++ text wanted) is
-    ∙ wait_laid row (codes "  task ") (decimal task) (codes " waits for ") (decimal holder) (codes ": ") (text wanted)
-    ∙ ap (λ (w : Acquired). row ++ (codes "  task " ++ (decimal task ++ (codes " waits for "
+    ∙ wait_laid row (codes "task ") (decimal task) (codes " waits for ") (decimal holder) (codes ": ") (text wanted)
+    ∙ ap (λ (w : Acquired). row ++ (codes "task " ++ (decimal task ++ (codes " waits for "
     ++ (decimal holder ++ (codes ": " ++ text w)))))) its
 one_wait (Err fault) core task holder wanted row now new its is more = tt

@@ -3,3 +3,5 @@ pub mod Widths
 pub mod Happenings
 pub mod Texts
 pub mod Holders
+pub mod JsonLaying
+pub mod JsonTexts

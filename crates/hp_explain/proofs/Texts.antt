@@ -1,6 +1,6 @@
 -- The head, the rows and the end, one behind the other.
-use Rattle.std.proofs.Common.{◌≡◌, ℕ, ◌+◌, List, [], ◌++◌, length, Option, refl, sym, ap, subst, ◌∙◌}
-use Rattle.std.proofs.Common.{All, inr}
+use Rattle.std.proofs.Common.{◌≡◌, ℕ, List, [], ◌++◌, length, Option, refl, sym, ap, subst, ◌∙◌}
+use Rattle.std.proofs.Common.{inr}
 use Rattle.std.specs.Prelude.{OnOk, IfErr, Result, Ok, Err}
 use Rattle.std.specs.Io.KnownBytes.{Appends}
 use Rattle.std.proofs.KnownBytes.{Appends-trans}
@@ -13,39 +13,45 @@ use Rattle.hp_text.specs.Collecting.{ReadsTrace}
 use Rattle.hp_text.specs.Writing.{Wrote, IsWriteFault}
 use Rattle.hp_text.specs.declared.fault.ReplayFault.{ReplayFault}
 use Rattle.hp_text.proofs.Writes.{Wrote-behind, Wrote-more}
-use Rattle.hp_explain.specs.Rows.{head_text, rows_text, end_text}
-use Rattle.hp_explain.specs.Explaining.{RowsWritten, RowsPartlyWritten, Explanation, WroteExplanation}
+use Rattle.hp_explain.specs.Happenings.{EventsTold, EventsPartlyTold}
+use Rattle.hp_explain.specs.Rows.{head_text, rows_text, shown_text, end_text}
+use Rattle.hp_explain.specs.Explaining.{Explanation, WroteExplanation}
 use Rattle.hp_explain.specs.Explaining.{PartlyExplained, some_rows, to_the_end}
 use Rattle.hp_explain.specs.Explaining.{NotExplained}
 use Rattle.hp_explain.specs.Waits.{AreHolders}
-use Rattle.hp_explain.specs.Widths.{HasRoom}
+use Rattle.hp_explain.specs.Views.{column_count, events_until}
+use Rattle.hp_explain.specs.Widths.{HaveRoom}
+use Rattle.hp_explain.specs.declared.view.View.{View}
 
 -- a pool that was opened, whom its tasks wait for, and the widths of its columns
-pub record Opened (config : Config) (events : List Event) (widths : List ℕ) (first : CoreState) (waited : List (Option ℕ)) : Type 0 where
+pub record Opened (v : View) (config : Config) (events : List Event) (widths : List ℕ) (first : CoreState)
+    (waited : List (Option ℕ)) : Type 0 where
   pub opening : IsOpening config first
   pub are_holders : AreHolders first waited
-  pub width_each : length widths ≡ (sizes config).tasks + 1
-  pub rooms : All (HasRoom (sizes config).tasks widths) events
+  pub width_each : length widths ≡ column_count v.compact (sizes config).tasks
+  pub rooms : HaveRoom v (sizes config).tasks widths events
 
-pub opened : (config : Config) (events slice : List Event) (widths items : List ℕ) (first : CoreState) (waited : List (Option ℕ))
-    → slice ≡ events → IsOpening config first → AreHolders first waited → widths ≡ items → length items ≡ (sizes config).tasks + 1
-    → All (HasRoom (sizes config).tasks items) events → Opened config slice widths first waited
-opened config events slice widths items first waited alike opening holders same count rooms =
+pub opened : (v : View) (config : Config) (events slice : List Event) (widths items : List ℕ) (first : CoreState) (waited : List (Option ℕ))
+    → slice ≡ events → IsOpening config first → AreHolders first waited → widths ≡ items
+    → length items ≡ column_count v.compact (sizes config).tasks
+    → HaveRoom v (sizes config).tasks items events → Opened v config slice widths first waited
+opened v config events slice widths items first waited alike opening holders same count rooms =
     record {
       opening = opening;
       are_holders = holders;
       width_each = ap length same ∙ count;
       rooms =
-          subst (λ (x : List ℕ). All (HasRoom (sizes config).tasks x) slice) (sym same)
-          (subst (All (HasRoom (sizes config).tasks items)) (sym alike) rooms);
+          subst (λ (x : List ℕ). HaveRoom v (sizes config).tasks x slice) (sym same)
+          (subst (HaveRoom v (sizes config).tasks items) (sym alike) rooms);
     }
 
 -- a run of all events
-explanation : (config : Config) (events : List Event) (widths : List ℕ) (first new : CoreState) (waited : List (Option ℕ))
+explanation : (v : View) (config : Config) (events : List Event) (widths : List ℕ) (first new : CoreState) (waited : List (Option ℕ))
     (a b : Option (List ℕ))
-    → Opened config events widths first waited → (r : RowsWritten widths 2 events first new waited a b)
-    → Explanation (sizes config) events (head_text (sizes config).quota widths ++ (rows_text widths 2 waited r.happenings ++ end_text new))
-explanation config events widths first new waited a b o r =
+    → Opened v config events widths first waited → (r : EventsTold (shown_text v widths) 2 events first new waited a b)
+    → Explanation v (sizes config) events (head_text v.compact (sizes config).quota widths
+    ++ (rows_text v widths 2 waited r.happenings ++ end_text new))
+explanation v config events widths first new waited a b o r =
     record {
       config = config;
       sizes_are = refl;
@@ -63,40 +69,42 @@ explanation config events widths first new waited a b o r =
       is = refl;
     }
 
-pub explained : (config : Config) (events : List Event) (widths : List ℕ) (first new : CoreState) (waited : List (Option ℕ))
+pub explained : (v : View) (config : Config) (events : List Event) (widths : List ℕ) (first new : CoreState) (waited : List (Option ℕ))
     (before a b after : Option (List ℕ))
-    → Opened config events widths first waited → Appends before a (head_text (sizes config).quota widths)
-    → RowsWritten widths 2 events first new waited a b
-    → Appends b after (end_text new) → WroteExplanation (sizes config) events before after
-explained config events widths first new waited before a b after o head r end =
+    → Opened v config events widths first waited → Appends before a (head_text v.compact (sizes config).quota widths)
+    → EventsTold (shown_text v widths) 2 events first new waited a b
+    → Appends b after (end_text new) → WroteExplanation v (sizes config) events before after
+explained v config events widths first new waited before a b after o head r end =
     record {
-      text = head_text (sizes config).quota widths ++ (rows_text widths 2 waited r.happenings ++ end_text new);
-      explains = explanation config events widths first new waited a b o r;
+      text = head_text v.compact (sizes config).quota widths ++ (rows_text v widths 2 waited r.happenings ++ end_text new);
+      explains = explanation v config events widths first new waited a b o r;
       wrote =
-          Appends-trans before a after (head_text (sizes config).quota widths) (rows_text widths 2 waited r.happenings ++ end_text new) head
-          (Appends-trans a b after (rows_text widths 2 waited r.happenings) (end_text new) r.wrote end);
+          Appends-trans before a after (head_text v.compact (sizes config).quota widths) (rows_text v widths 2 waited r.happenings
+          ++ end_text new) head
+          (Appends-trans a b after (rows_text v widths 2 waited r.happenings) (end_text new) r.wrote end);
     }
 
 -- the end was not written to its own
-pub end_stopped : (config : Config) (events : List Event) (widths : List ℕ) (first new : CoreState) (waited : List (Option ℕ))
+pub end_stopped : (v : View) (config : Config) (events : List Event) (widths : List ℕ) (first new : CoreState) (waited : List (Option ℕ))
     (before a b after : Option (List ℕ))
-    → Opened config events widths first waited → Appends before a (head_text (sizes config).quota widths)
-    → RowsWritten widths 2 events first new waited a b
-    → Wrote b after (end_text new) → PartlyExplained (sizes config) events before after
-end_stopped config events widths first new waited before a b after o head r end =
-    to_the_end (head_text (sizes config).quota widths ++ (rows_text widths 2 waited r.happenings ++ end_text new))
-    (explanation config events widths first new waited a b o r)
-    (Wrote-behind before a after (head_text (sizes config).quota widths) (rows_text widths 2 waited r.happenings ++ end_text new) head
-    (Wrote-behind a b after (rows_text widths 2 waited r.happenings) (end_text new) r.wrote end))
+    → Opened v config events widths first waited → Appends before a (head_text v.compact (sizes config).quota widths)
+    → EventsTold (shown_text v widths) 2 events first new waited a b
+    → Wrote b after (end_text new) → PartlyExplained v (sizes config) events before after
+end_stopped v config events widths first new waited before a b after o head r end =
+    to_the_end (head_text v.compact (sizes config).quota widths ++ (rows_text v widths 2 waited r.happenings ++ end_text new))
+    (explanation v config events widths first new waited a b o r)
+    (Wrote-behind before a after (head_text v.compact (sizes config).quota widths) (rows_text v widths 2 waited r.happenings
+    ++ end_text new) head
+    (Wrote-behind a b after (rows_text v widths 2 waited r.happenings) (end_text new) r.wrote end))
 
 -- nor were the rows
-pub rows_stopped : (config : Config) (events : List Event) (widths : List ℕ) (first : CoreState) (waited : List (Option ℕ))
+pub rows_stopped : (v : View) (config : Config) (events : List Event) (widths : List ℕ) (first : CoreState) (waited : List (Option ℕ))
     (before a after : Option (List ℕ))
-    → Opened config events widths first waited → Appends before a (head_text (sizes config).quota widths)
-    → RowsPartlyWritten widths 2 events first waited a after
-    → PartlyExplained (sizes config) events before after
-rows_stopped config events widths first waited before a after o head r =
-    some_rows (head_text (sizes config).quota widths ++ rows_text widths 2 waited r.happenings)
+    → Opened v config events widths first waited → Appends before a (head_text v.compact (sizes config).quota widths)
+    → EventsPartlyTold (shown_text v widths) 2 events first waited a after
+    → PartlyExplained v (sizes config) events before after
+rows_stopped v config events widths first waited before a after o head r =
+    some_rows (head_text v.compact (sizes config).quota widths ++ rows_text v widths 2 waited r.happenings)
     (record {
       config = config;
       sizes_are = refl;
@@ -114,15 +122,15 @@ rows_stopped config events widths first waited before a after o head r =
       happens = r.happens;
       is = refl;
     })
-    (Wrote-behind before a after (head_text (sizes config).quota widths) (rows_text widths 2 waited r.happenings) head r.wrote)
+    (Wrote-behind before a after (head_text v.compact (sizes config).quota widths) (rows_text v widths 2 waited r.happenings) head r.wrote)
 
 -- nor was the head
-pub head_stopped : (config : Config) (events : List Event) (widths : List ℕ) (first : CoreState) (waited : List (Option ℕ))
+pub head_stopped : (v : View) (config : Config) (events : List Event) (widths : List ℕ) (first : CoreState) (waited : List (Option ℕ))
     (before after : Option (List ℕ))
-    → Opened config events widths first waited → Wrote before after (head_text (sizes config).quota widths)
-    → PartlyExplained (sizes config) events before after
-head_stopped config events widths first waited before after o head =
-    some_rows (head_text (sizes config).quota widths ++ rows_text widths 2 waited [])
+    → Opened v config events widths first waited → Wrote before after (head_text v.compact (sizes config).quota widths)
+    → PartlyExplained v (sizes config) events before after
+head_stopped v config events widths first waited before after o head =
+    some_rows (head_text v.compact (sizes config).quota widths ++ rows_text v widths 2 waited [])
     (record {
       config = config;
       sizes_are = refl;
@@ -140,38 +148,40 @@ head_stopped config events widths first waited before after o head =
       happens = refl;
       is = refl;
     })
-    (Wrote-more before after (head_text (sizes config).quota widths) (rows_text widths 2 waited []) head)
+    (Wrote-more before after (head_text v.compact (sizes config).quota widths) (rows_text v widths 2 waited []) head)
 
 -- ---- what comes of the end
 
-pub explained_to_the_end : {A : Type 0} (r : Result A ReplayFault) (config : Config) (events slice : List Event) (widths : List ℕ)
+pub explained_to_the_end : {A : Type 0} (r : Result A ReplayFault) (v : View) (config : Config) (events slice : List Event)
+    (widths : List ℕ)
     (first new : CoreState) (waited : List (Option ℕ)) (before a b after : Option (List ℕ)) → slice ≡ events
-    → Opened config slice widths first waited
-    → Appends before a (head_text (sizes config).quota widths)
-    → RowsWritten widths 2 slice first new waited a b → OnOk r (Appends b after (end_text new))
-    → OnOk r (WroteExplanation (sizes config) events before after)
-explained_to_the_end (Ok x) config events slice widths first new waited before a b after same o head rows end =
-    subst (λ (list : List Event). WroteExplanation (sizes config) list before after) same
-    (explained config slice widths first new waited before a b after o head rows end)
-explained_to_the_end (Err fault) config events slice widths first new waited before a b after same o head rows end = tt
+    → Opened v config slice widths first waited
+    → Appends before a (head_text v.compact (sizes config).quota widths)
+    → EventsTold (shown_text v widths) 2 slice first new waited a b → OnOk r (Appends b after (end_text new))
+    → OnOk r (WroteExplanation v (sizes config) events before after)
+explained_to_the_end (Ok x) v config events slice widths first new waited before a b after same o head rows end =
+    subst (λ (list : List Event). WroteExplanation v (sizes config) list before after) same
+    (explained v config slice widths first new waited before a b after o head rows end)
+explained_to_the_end (Err fault) v config events slice widths first new waited before a b after same o head rows end = tt
 
-pub stopped_at_the_end : {A : Type 0} (r : Result A ReplayFault) (config : Config) (events slice : List Event) (widths : List ℕ)
+pub stopped_at_the_end : {A : Type 0} (r : Result A ReplayFault) (v : View) (config : Config) (events slice : List Event) (widths : List ℕ)
     (first new : CoreState) (waited : List (Option ℕ)) (before a b after : Option (List ℕ)) → slice ≡ events
-    → Opened config slice widths first waited
-    → Appends before a (head_text (sizes config).quota widths) → RowsWritten widths 2 slice first new waited a b
+    → Opened v config slice widths first waited
+    → Appends before a (head_text v.compact (sizes config).quota widths) → EventsTold (shown_text v widths) 2 slice first new waited a b
     → IfErr r (λ fault. IsWriteFault fault × Wrote b after (end_text new))
-    → IfErr r (λ fault. IsWriteFault fault × PartlyExplained (sizes config) events before after)
-stopped_at_the_end (Ok x) config events slice widths first new waited before a b after same o head rows end = tt
-stopped_at_the_end (Err fault) config events slice widths first new waited before a b after same o head rows end = (
+    → IfErr r (λ fault. IsWriteFault fault × PartlyExplained v (sizes config) events before after)
+stopped_at_the_end (Ok x) v config events slice widths first new waited before a b after same o head rows end = tt
+stopped_at_the_end (Err fault) v config events slice widths first new waited before a b after same o head rows end = (
   end.0,
-  subst (λ (list : List Event). PartlyExplained (sizes config) list before after) same
-      (end_stopped config slice widths first new waited before a b after o head rows end.1),
+  subst (λ (list : List Event). PartlyExplained v (sizes config) list before after) same
+      (end_stopped v config slice widths first new waited before a b after o head rows end.1),
 )
 
 -- what was explained in part was read
-pub not_explained : {A : Type 0} (r : Result A ReplayFault) (from to before after : Option (List ℕ)) (s : Sizes) (events : List Event)
-    → ReadsTrace from to s events → IfErr r (λ fault. IsWriteFault fault × PartlyExplained s events before after)
-    → IfErr r (λ fault. NotExplained fault from to before after)
-not_explained (Ok x) from to before after s events reads stopped = tt
-not_explained (Err fault) from to before after s events reads stopped =
+pub not_explained : {A : Type 0} (r : Result A ReplayFault) (v : View) (from to before after : Option (List ℕ)) (s : Sizes)
+    (events : List Event)
+    → ReadsTrace from to s events → IfErr r (λ fault. IsWriteFault fault × PartlyExplained v s (events_until v events) before after)
+    → IfErr r (λ fault. NotExplained v fault from to before after)
+not_explained (Ok x) v from to before after s events reads stopped = tt
+not_explained (Err fault) v from to before after s events reads stopped =
     inr (stopped.0, record { sizes = s; events = events; reads = reads; wrote = stopped.1 })

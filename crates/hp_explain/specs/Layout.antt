@@ -29,14 +29,14 @@ unfoldable pub columns : (widths : List ℕ) → (own : ℕ) → (text : List �
 columns widths own text zero = []
 columns widths own text (suc n) = columns widths own text n ++ column (slice_index_or widths n 0) (n == own) text
 
--- what stands over a column: `task 2`, or `pool` over that of what is of no task of the pool
-abbrev pub title : (n : ℕ) → List ℕ
-title n = if n == 0 then codes "pool" else codes "task " ++ decimal n
+-- what stands over a column: `event` over the one of all, `task 2`, or `pool` over that of what is of no task of the pool
+abbrev pub title : (compact : Bool) → (n : ℕ) → List ℕ
+title compact n = if compact then codes "event" else (if n == 0 then codes "pool" else codes "task " ++ decimal n)
 
-abbrev pub titled : (width n : ℕ) → List ℕ
-titled width n = if nat_lt 0 width then field width (title n) else []
+abbrev pub titled : (compact : Bool) → (width n : ℕ) → List ℕ
+titled compact width n = if nat_lt 0 width then field width (title compact n) else []
 
 -- the same over the first n
-unfoldable pub titles : (widths : List ℕ) → (n : ℕ) → List ℕ
-titles widths zero = []
-titles widths (suc n) = titles widths n ++ titled (slice_index_or widths n 0) n
+unfoldable pub titles : (compact : Bool) → (widths : List ℕ) → (n : ℕ) → List ℕ
+titles compact widths zero = []
+titles compact widths (suc n) = titles compact widths n ++ titled compact (slice_index_or widths n 0) n

@@ -1,6 +1,12 @@
+pub mod Views
 pub mod Layout
 pub mod Words
 pub mod Waits
 pub mod Widths
+pub mod Happenings
 pub mod Rows
 pub mod Explaining
+pub mod JsonEvents
+pub mod JsonCalls
+pub mod JsonObjects
+pub mod JsonRuns

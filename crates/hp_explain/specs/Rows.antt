@@ -1,5 +1,5 @@
 -- The text that explains a run: a head, a row for each event, a line for each call in flight, and the lines of the state.
-use Rattle.std.specs.Prelude.{ℕ, zero, suc, List, [], ◌∷◌, ◌++◌, length, Option, Some, None, codes}
+use Rattle.std.specs.Prelude.{ℕ, zero, suc, Bool, List, [], ◌∷◌, ◌++◌, length, Option, Some, None, codes, if◌then◌else◌}
 use Rattle.std.specs.Fmt.{decimal, signed_decimal}
 use Rattle.hp_base.specs.declared.event.Event.{Event}
 use Rattle.hp_machine.specs.Text.{phase_word}
@@ -11,17 +11,12 @@ use Rattle.hp_core.specs.State.{CoreState}
 use Rattle.hp_core.specs.Acquiring.{acquired_of, owed_by_of}
 use Rattle.hp_core.specs.declared.holding.Holding.{Holding}
 use Rattle.hp_replay.specs.Outcomes.{state_text}
+use Rattle.hp_explain.specs.Happenings.{Happening, texts_of}
 use Rattle.hp_explain.specs.Layout.{columns, titles, right, right_signed}
-use Rattle.hp_text.specs.Columns.{column_of}
+use Rattle.hp_explain.specs.Views.{column_in, is_shown}
+use Rattle.hp_explain.specs.declared.view.View.{View}
 use Rattle.hp_explain.specs.Waits.{changes_text}
 use Rattle.hp_explain.specs.Words.{cell_text, lock_text, slot_text, wanted_text}
-
--- an event, what came of it, the core that it led to, and whom each task waits for there
-pub record Happening : Type 0 where
-  pub event : Event
-  pub outcome : Outcome
-  pub core : CoreState
-  pub holders : List (Option ℕ)
 
 -- what stands over the used count, where the pool has a quota
 abbrev pub used_title : (quota : Option ℕ) → List ℕ
@@ -29,12 +24,14 @@ used_title None = []
 used_title (Some quota) = codes "  used"
 
 -- `   line  task 1 .. task 2 .. free  resv  owed`, and `  used` where the pool has a quota
-abbrev pub head_text : (quota : Option ℕ) → (widths : List ℕ) → List ℕ
-head_text quota widths = codes "   line  " ++ (titles widths (length widths) ++ (codes "free  resv  owed" ++ (used_title quota ++ 10 ∷ [])))
+abbrev pub head_text : (compact : Bool) → (quota : Option ℕ) → (widths : List ℕ) → List ℕ
+head_text compact quota widths =
+    codes "   line  " ++ (titles compact widths (length widths) ++ (codes "free  resv  owed" ++ (used_title quota ++ 10 ∷ [])))
 
 -- the event in the column of its task, with what came of it
-abbrev pub cells : (widths : List ℕ) → CoreState → Event → Outcome → List ℕ
-cells widths core event outcome = columns widths (column_of (config_of core).tasks event) (cell_text core event outcome) (length widths)
+abbrev pub cells : View → (widths : List ℕ) → CoreState → Event → Outcome → List ℕ
+cells v widths core event outcome =
+    columns widths (column_in v.compact (config_of core).tasks event) (cell_text v.linux core event outcome) (length widths)
 
 -- the used count, where the pool has a quota
 abbrev pub used_count : (quota : Option ℕ) → CoreState → List ℕ
@@ -49,15 +46,19 @@ counts core =
 
 -- | the line's number | a column for each task | free | resv | owed | used | tasks whose wait began, changed or ended |. Before the
 -- event they waited for these holders
-abbrev pub row_text : (widths : List ℕ) → (line : ℕ) → (before : List (Option ℕ)) → Happening → List ℕ
-row_text widths line before h =
+abbrev pub row_text : View → (widths : List ℕ) → (line : ℕ) → (before : List (Option ℕ)) → Happening → List ℕ
+row_text v widths line before h =
     right 7 line ++ (codes "  "
-    ++ (cells widths h.core h.event h.outcome ++ (counts h.core ++ (changes_text h.core before h.holders (config_of h.core).tasks ++ 10 ∷ []))))
+    ++ (cells v widths h.core h.event h.outcome
+    ++ (counts h.core ++ (changes_text v.compact h.core before h.holders (config_of h.core).tasks ++ 10 ∷ []))))
+
+-- the same, if the event has a row
+abbrev pub shown_text : View → (widths : List ℕ) → (line : ℕ) → (before : List (Option ℕ)) → Happening → List ℕ
+shown_text v widths line before h = if is_shown v line h.event then row_text v widths line before h else []
 
 -- the rows of these lines, which begin with that one
-unfoldable pub rows_text : (widths : List ℕ) → (line : ℕ) → (before : List (Option ℕ)) → List Happening → List ℕ
-rows_text widths line before [] = []
-rows_text widths line before (h ∷ more) = row_text widths line before h ++ rows_text widths (suc line) h.holders more
+abbrev pub rows_text : View → (widths : List ℕ) → (line : ℕ) → (before : List (Option ℕ)) → List Happening → List ℕ
+rows_text v widths line before list = texts_of (shown_text v widths) line before list
 
 -- what a call holds: `nothing`, `lock of file 0`, `slot 3, file 0 index 0`, `lock of file 0 and slot 3, file 0 index 0`
 abbrev pub held_text : CoreState → (slot : Option (ℕ × ℕ)) → (lock : Option ℕ) → List ℕ

@@ -1,11 +1,13 @@
 -- What is told of an event, in words.
-use Rattle.std.specs.Prelude.{ℕ, ◌==◌, List, [], ◌++◌, Option, None, Some, codes, if◌then◌else◌}
+use Rattle.std.specs.Prelude.{ℕ, ◌==◌, Bool, List, [], ◌++◌, Option, None, Some, codes, if◌then◌else◌}
 use Rattle.std.specs.Fmt.{decimal}
 use Rattle.hp_base.specs.Text.{event_text}
 use Rattle.hp_base.specs.declared.event.Event.{Event}
 use Rattle.hp_text.specs.Columns.{column_of}
 use Rattle.hp_machine.specs.State.{slot_of}
 use Rattle.hp_machine.specs.Text.{outcome_text}
+use Rattle.hp_machine.specs.declared.phase.Phase.{Phase}
+use Rattle.hp_words.specs.Linux.{linux_word}
 use Rattle.hp_machine.specs.declared.outcome.Outcome.{Outcome}
 use Rattle.hp_machine.specs.declared.outcome.Outcome.TheVariants as outcome
 use Rattle.hp_core.specs.Readers.{config_of}
@@ -47,19 +49,23 @@ index_text None (wanted.Slot file index) = codes ", index " ++ decimal index
 abbrev pub index_in : CoreState → (column : ℕ) → List ℕ
 index_in core column = if column == 0 then [] else index_text (holding_of core column).slot (acquired_of core column)
 
--- `moved taken, index 3`; `blocked by 2: slot 3, file 0 index 0`, else the outcome as it is
-abbrev pub outcome_words : CoreState → Event → Outcome → List ℕ
-outcome_words core event outcome.Begun = outcome_text outcome.Begun
-outcome_words core event (outcome.Moved phase) =
-    outcome_text (outcome.Moved phase) ++ index_in core (column_of (config_of core).tasks event)
-outcome_words core event (outcome.Blocked holder) =
+-- ` (region_add)`, where Linux's functions are asked for
+abbrev pub linux_part : (linux : Bool) → Phase → List ℕ
+linux_part linux phase = if linux then codes " (" ++ (linux_word phase ++ codes ")") else []
+
+-- `moved taken, index 3`, or `moved taken (region_add), index 3`; `blocked by 2: slot 3, file 0 index 0`, else the outcome as it is
+abbrev pub outcome_words : (linux : Bool) → CoreState → Event → Outcome → List ℕ
+outcome_words linux core event outcome.Begun = outcome_text outcome.Begun
+outcome_words linux core event (outcome.Moved phase) =
+    outcome_text (outcome.Moved phase) ++ (linux_part linux phase ++ index_in core (column_of (config_of core).tasks event))
+outcome_words linux core event (outcome.Blocked holder) =
     codes "blocked by " ++ (decimal holder
     ++ (codes ": " ++ wanted_text core (wanted_in core (column_of (config_of core).tasks event))))
-outcome_words core event (outcome.Ended answer) = outcome_text (outcome.Ended answer)
-outcome_words core event outcome.Marked = outcome_text outcome.Marked
-outcome_words core event (outcome.Resized frames) = outcome_text (outcome.Resized frames)
-outcome_words core event (outcome.Refused refusal) = outcome_text (outcome.Refused refusal)
+outcome_words linux core event (outcome.Ended answer) = outcome_text (outcome.Ended answer)
+outcome_words linux core event outcome.Marked = outcome_text outcome.Marked
+outcome_words linux core event (outcome.Resized frames) = outcome_text (outcome.Resized frames)
+outcome_words linux core event (outcome.Refused refusal) = outcome_text (outcome.Refused refusal)
 
 -- the event, and what came of it: `step 1: moved want`
-abbrev pub cell_text : CoreState → Event → Outcome → List ℕ
-cell_text core event outcome = event_text event ++ (codes ": " ++ outcome_words core event outcome)
+abbrev pub cell_text : (linux : Bool) → CoreState → Event → Outcome → List ℕ
+cell_text linux core event outcome = event_text event ++ (codes ": " ++ outcome_words linux core event outcome)

@@ -52,10 +52,13 @@ pub(crate) fn push_columns(
 }
 
 /// Lays out what stands over a column.
-fn lay_title(number: usize, word: &mut String) -> Result<(), AllocError>
-    ensures { OnOk result (string_bytes word.new ≡ title number) }
+fn lay_title(compact: bool, number: usize, word: &mut String) -> Result<(), AllocError>
+    ensures { OnOk result (string_bytes word.new ≡ title compact number) }
 {
     word.clear();
+    if compact {
+        return word.push_str("event");
+    }
     if number == 0 {
         return write!(word, "pool");
     }
@@ -64,30 +67,32 @@ fn lay_title(number: usize, word: &mut String) -> Result<(), AllocError>
 
 /// Appends what stands over a column. `word` is where it is laid out.
 fn push_title(
+    compact: bool,
     width: usize,
     number: usize,
     word: &mut String,
     line: &mut String,
 ) -> Result<(), AllocError>
-    ensures { OnOk result (string_bytes line.new ≡ string_bytes line.old ++ titled width number) }
+    ensures { OnOk result (string_bytes line.new ≡ string_bytes line.old ++ titled compact width number) }
 {
     if width == 0 {
         return Ok(());
     }
-    lay_title(number, word)?;
+    lay_title(compact, number, word)?;
     push_field(width, word.as_str(), line)
 }
 
 /// Appends what stands over the columns.
 pub(crate) fn push_titles(
+    compact: bool,
     widths: &[usize],
     word: &mut String,
     line: &mut String,
 ) -> Result<(), AllocError>
-    ensures { OnOk result (string_bytes line.new ≡ string_bytes line.old ++ titles widths.now (length widths.now)) }
+    ensures { OnOk result (string_bytes line.new ≡ string_bytes line.old ++ titles compact widths.now (length widths.now)) }
 {
     for number in 0..widths.len() {
-        push_title(widths[number], number, word, line)?;
+        push_title(compact, widths[number], number, word, line)?;
     }
     Ok(())
 }

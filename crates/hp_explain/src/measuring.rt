@@ -1,16 +1,18 @@
 //! How wide the columns are to be.
-ghost use Rattle.std.specs.Prelude.{◌≡◌, ◌≤◌, ◌<◌, ◌+◌, ◌-◌, ◌^◌, All, IfOk, OnOk, length, min, slice_index_or};
+ghost use Rattle.std.specs.Prelude.{◌≡◌, ◌≤◌, ◌<◌, ◌+◌, ◌-◌, ◌^◌, IfOk, IsTrue, OnOk, length, min, slice_index_or};
 ghost use Rattle.hp_base.specs.Text.{sizes};
 ghost use Rattle.hp_core.specs.Readers.{config_of};
-ghost use Rattle.hp_explain.specs.Widths.{HasRoom, NoneNarrower};
+ghost use Rattle.hp_explain.specs.Views.{column_count, is_shown};
+ghost use Rattle.hp_explain.specs.Widths.{HasRoom, HaveRoom, NoneNarrower};
 
+use crate::view::{View, column_in, tasks_apart};
 use crate::words::lay_cell;
-use hp_base::{Answer, Event};
+use hp_base::{Answer, Config, Event};
 use hp_core::{Core, Outcome};
-use hp_text::{Trace, column_of};
+use hp_text::MOST_EVENTS;
 use std::alloc::{AllocError, Global};
 
-/// A column for what is of no task and one for each task, each of no width.
+/// A column for what is of no task and one for each task that has its own, each of no width.
 fn no_columns(alloc: Global, tasks: u32) -> Result<Vec<usize>, AllocError>
     ensures { IfOk result (λ widths. length widths.items ≡ tasks + 1) }
 {
@@ -33,44 +35,55 @@ fn widen(widths: &mut [usize], column: usize, text: &str)
     }
 }
 
-/// Lets an event happen, and makes room for what is told of it.
+/// Lets an event happen, and makes room for what is told of it, if it has a row.
 fn measure_event(
+    view: &View,
+    line: u32,
     event: Event,
     core: &mut Core,
     widths: &mut [usize],
     cell: &mut String,
 ) -> Result<(), AllocError>
-    requires { length widths.old ≡ (config_of core.old).tasks + 1 }
+    requires { length widths.old ≡ column_count view.now.compact (config_of core.old).tasks }
     ensures grows { OnOk result (NoneNarrower widths.old widths.new) }
-    ensures room { OnOk result (HasRoom (config_of core.old).tasks widths.new event) }
+    ensures room { OnOk result (IsTrue (is_shown view.now line event)
+        → HasRoom view.now.compact (config_of core.old).tasks widths.new event) }
     ensures config { OnOk result (config_of core.new ≡ config_of core.old) }
 {
     // The checker of borrows asks for a mention of the types that an outcome may hold.
     let _no_answer: Option<Answer> = None;
     let outcome: Outcome = core.step(event)?;
-    lay_cell(core, &event, outcome, cell)?;
+    if !view.shows(line, &event) {
+        return Ok(());
+    }
+    lay_cell(view.linux, core, &event, outcome, cell)?;
     let config = core.config();
     widen(
         widths,
-        column_of(config.tasks, &event) as usize,
+        column_in(view.compact, config.tasks, &event),
         cell.as_str(),
     );
     Ok(())
 }
 
-/// Runs the trace once, only to see how wide the texts of each column are. A column in which nothing stands has no width.
+/// Runs the events once, only to see how wide the texts of each column are. A column in which nothing stands has no width.
 pub(crate) fn measure(
     alloc: Global,
-    trace: &Trace,
+    view: &View,
+    config: Config,
+    events: &[Event],
     cell: &mut String,
 ) -> Result<Vec<usize>, AllocError>
-    ensures count { IfOk result (λ widths. length widths.items ≡ (sizes trace.now.config).tasks + 1) }
-    ensures rooms { IfOk result (λ widths. All (HasRoom (sizes trace.now.config).tasks widths.items) trace.now.events.items) }
+    requires { length events.now ≤ MOST_EVENTS }
+    ensures count { IfOk result (λ widths. length widths.items ≡ column_count view.now.compact (sizes config).tasks) }
+    ensures rooms { IfOk result (λ widths. HaveRoom view.now (sizes config).tasks widths.items events.now) }
 {
-    let mut widths = no_columns(alloc, trace.config.tasks)?;
-    let mut core = Core::new(alloc, trace.config)?;
-    for event in &trace.events {
-        measure_event(*event, &mut core, widths.as_mut_slice(), cell)?;
+    let mut widths = no_columns(alloc, tasks_apart(view.compact, config.tasks))?;
+    let mut core = Core::new(alloc, config)?;
+    let mut line = 2;
+    for event in events {
+        measure_event(view, line, *event, &mut core, widths.as_mut_slice(), cell)?;
+        line += 1;
     }
     Ok(widths)
 }

@@ -2,7 +2,7 @@
 ghost use Rattle.std.specs.Prelude.{◌≡◌, ◌≤◌, ◌++◌, IfOk, OnOk, length, string_bytes};
 ghost use Rattle.hp_core.specs.Readers.{config_of};
 ghost use Rattle.hp_core.specs.Runs.{Row, IsOpening};
-ghost use Rattle.hp_explain.specs.Waits.{AreHolders, change_text, changes_text, end_of_wait_text, wait_text};
+ghost use Rattle.hp_explain.specs.Waits.{AreHolders, change_text, changes_text, end_of_wait_text, lead, wait_text};
 
 use crate::words::push_acquired;
 use hp_base::{Config, Event, Op, Task};
@@ -69,12 +69,30 @@ fn push_wait(core: &Core, task: Task, holder: Task, row: &mut String) -> Result<
     ensures { OnOk result (string_bytes row.new ≡ string_bytes row.old ++ wait_text core.now task holder) }
 {
     let wanted = core.acquiring(task);
-    write!(row, "  task {task} waits for {holder}: ")?;
+    write!(row, "task {task} waits for {holder}: ")?;
     push_acquired(core, wanted, row)
+}
+
+/// Appends what stands before each change: two spaces, or a line of its own.
+fn push_lead(compact: bool, row: &mut String) -> Result<(), AllocError>
+    ensures { OnOk result (string_bytes row.new ≡ string_bytes row.old ++ lead compact) }
+{
+    if compact {
+        return row.push_str("\n         ");
+    }
+    row.push_str("  ")
+}
+
+/// Appends that the task waits for nobody any more.
+fn push_end_of_wait(task: Task, row: &mut String) -> Result<(), AllocError>
+    ensures { OnOk result (string_bytes row.new ≡ string_bytes row.old ++ end_of_wait_text task) }
+{
+    write!(row, "task {task} waits no more")
 }
 
 /// Appends what is told of a task where its wait began, changed or ended.
 fn push_change(
+    compact: bool,
     core: &Core,
     task: Task,
     before: Option<Task>,
@@ -83,16 +101,23 @@ fn push_change(
 ) -> Result<(), AllocError>
     requires first { 1 ≤ task }
     requires last { task ≤ (config_of core.now).tasks }
-    ensures { OnOk result (string_bytes row.new ≡ string_bytes row.old ++ change_text core.now task before after) }
+    ensures { OnOk result (string_bytes row.new ≡ string_bytes row.old ++ change_text compact core.now task before after) }
 {
     match (before, after) {
         (None, None) => Ok(()),
-        (Some(_), None) => write!(row, "  task {task} waits no more"),
-        (None, Some(holder)) => push_wait(core, task, holder, row),
+        (Some(_), None) => {
+            push_lead(compact, row)?;
+            push_end_of_wait(task, row)
+        }
+        (None, Some(holder)) => {
+            push_lead(compact, row)?;
+            push_wait(core, task, holder, row)
+        }
         (Some(earlier), Some(holder)) => {
             if earlier == holder {
                 return Ok(());
             }
+            push_lead(compact, row)?;
             push_wait(core, task, holder, row)
         }
     }
@@ -100,6 +125,7 @@ fn push_change(
 
 /// Appends what is told of each task whose wait began, changed or ended by the last event.
 pub(crate) fn push_changes(
+    compact: bool,
     core: &Core,
     before: &[Option<Task>],
     after: &[Option<Task>],
@@ -108,12 +134,13 @@ pub(crate) fn push_changes(
     requires before { length before.now ≡ (config_of core.now).tasks }
     requires after { length after.now ≡ (config_of core.now).tasks }
     ensures { OnOk result (string_bytes row.new
-        ≡ string_bytes row.old ++ changes_text core.now before.now after.now (config_of core.now).tasks) }
+        ≡ string_bytes row.old ++ changes_text compact core.now before.now after.now (config_of core.now).tasks) }
 {
     let config = core.config();
     for number in 0..config.tasks {
         let place = number as usize;
         push_change(
+            compact,
             core,
             Task::new(number + 1),
             before[place],

@@ -1,12 +1,14 @@
 //! What came of an event, in words.
 ghost use Rattle.std.specs.Prelude.{◌≡◌, ◌≤◌, ◌++◌, Option, OnOk, string_bytes};
 ghost use Rattle.hp_core.specs.Readers.{config_of};
-ghost use Rattle.hp_explain.specs.Words.{cell_text, index_in, index_text, lock_text, slot_text, outcome_words, wanted_in, wanted_text};
+ghost use Rattle.hp_explain.specs.Words.{cell_text, index_in, index_text, linux_part};
+ghost use Rattle.hp_explain.specs.Words.{lock_text, slot_text, outcome_words, wanted_in, wanted_text};
 
 use hp_base::{Event, File, Index, Task};
-use hp_core::{Acquired, Core, Outcome};
+use hp_core::{Acquired, Core, Outcome, Phase};
 use hp_slots::slot_number;
 use hp_text::column_of;
+use hp_words::linux_name;
 use std::alloc::AllocError;
 
 /// Appends the slot of an index, as `slot 3, file 0 index 0`.
@@ -76,15 +78,27 @@ fn push_index_in(core: &Core, column: u32, text: &mut String) -> Result<(), Allo
     push_index(core.holding(task).slot, core.acquiring(task), text)
 }
 
+/// Appends what does in Linux what the next step does, where that is asked for.
+fn push_linux(linux: bool, phase: Phase, text: &mut String) -> Result<(), AllocError>
+    ensures { OnOk result (string_bytes text.new ≡ string_bytes text.old ++ linux_part linux phase) }
+{
+    if linux {
+        let name = linux_name(phase);
+        return write!(text, " ({name})");
+    }
+    Ok(())
+}
+
 /// Appends what came of an event: the outcome; where a step was made, the index at which the call works; and where one was blocked,
 /// by whom and on what.
 fn push_outcome(
+    linux: bool,
     core: &Core,
     event: &Event,
     outcome: Outcome,
     text: &mut String,
 ) -> Result<(), AllocError>
-    ensures { OnOk result (string_bytes text.new ≡ string_bytes text.old ++ outcome_words core.now event.now outcome) }
+    ensures { OnOk result (string_bytes text.new ≡ string_bytes text.old ++ outcome_words linux core.now event.now outcome) }
 {
     match outcome {
         Outcome::Blocked(holder) => {
@@ -93,9 +107,10 @@ fn push_outcome(
             write!(text, "blocked by {holder}: ")?;
             push_acquired(core, wanted, text)
         }
-        Outcome::Moved(_) => {
+        Outcome::Moved(phase) => {
             let config = core.config();
             write!(text, "{outcome}")?;
+            push_linux(linux, phase, text)?;
             push_index_in(core, column_of(config.tasks, event), text)
         }
         _ => write!(text, "{outcome}"),
@@ -104,14 +119,15 @@ fn push_outcome(
 
 /// Lays out an event and what came of it. `core` is the one that it led to.
 pub(crate) fn lay_cell(
+    linux: bool,
     core: &Core,
     event: &Event,
     outcome: Outcome,
     text: &mut String,
 ) -> Result<(), AllocError>
-    ensures { OnOk result (string_bytes text.new ≡ cell_text core.now event.now outcome) }
+    ensures { OnOk result (string_bytes text.new ≡ cell_text linux core.now event.now outcome) }
 {
     text.clear();
     write!(text, "{event}: ")?;
-    push_outcome(core, event, outcome, text)
+    push_outcome(linux, core, event, outcome, text)
 }

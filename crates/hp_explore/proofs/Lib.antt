@@ -1,5 +1,7 @@
 pub mod Claimed
 pub mod Collected
+pub mod Counting
+pub mod Awaiting
 pub mod Inverse
 pub mod OneLine
 pub mod Others

@@ -1,7 +1,7 @@
 -- A run of a schedule has one line: whatever frames its takes give.
 use Rattle.std.proofs.Common.{◌≡◌, ℕ, zero, suc, ◌+◌, List, [], ◌∷◌, ◌++◌, length, refl, sym, ap}
 use Rattle.std.proofs.Common.{◌∙◌, subst, arith, inl, inr}
-use Rattle.std.specs.Prelude.{Bool, true, false, not, ◌&&◌, is_none, IsSome, MatchBool, if◌then◌else◌}
+use Rattle.std.specs.Prelude.{Bool, true, false, not, ◌&&◌, ◌-◌, is_none, is_some, nat_le, slice_index, MatchBool, if◌then◌else◌}
 use Rattle.std.specs.List.{range_with_len, list_all, zip}
 use Rattle.hp_base.specs.Text.{sizes}
 use Rattle.hp_base.specs.declared.event.Event.{Event}
@@ -23,6 +23,7 @@ use Rattle.hp_explore.specs.declared.line.Finish.TheVariants.{Finished, Stuck}
 use Rattle.hp_explore.specs.declared.line.RunLine.{RunLine}
 use Rattle.hp_text.specs.declared.script.Script.{Script}
 use Rattle.hp_explore.specs.Schedule.{Plan, World, IsStart, Turn, Choice, CanTurn, AreRunnable, AreRunnableOf, in_call, next_call}
+use Rattle.hp_explore.specs.Schedule.{may_begin, next_needs}
 use Rattle.hp_explore.specs.Schedule.{choice_of, task_choice, picked, drawn, plan_of}
 use Rattle.hp_explore.specs.Explored.{Finds, IsFirst, IsRun, IsExplored, line_of, all_done, idle_finish, last_finish, turn_limit}
 use Rattle.hp_explore.proofs.Twins.{Twins, opening_twins, told_same, still_some, same_busy, same_life, same_resv, same_free}
@@ -46,6 +47,13 @@ same_alive : (v w : World) → WorldTwins v w → (t : ℕ) → is_alive (life_o
 unfolding life_of
 same_alive v w h t = ap (λ (l : Life). is_alive l) (same_life (as_state v.core) (as_state w.core) t h.cores)
 
+-- the same tasks may begin a call
+same_begin : (plan : Plan) (v w : World) → WorldTwins v w → (t : ℕ) → may_begin plan w t ≡ may_begin plan v t
+same_begin plan v w h t =
+    λ i. is_some (next_call plan (h.made i) t)
+    && list_all (λ need. nat_le need.calls (slice_index (h.made i) (need.place + 1 - 1)
+    - (if same_in_call v w h (need.place + 1) i then 1 else 0))) (next_needs plan (h.made i) t)
+
 -- what follows from either side follows from a choice between them
 match_same : {b c : Bool} {P Q R S : Type 0} → c ≡ b → (P → R) → (Q → S) → MatchBool b P Q → MatchBool c R S
 match_same {b = true} {c = true} e f g h = f h
@@ -56,13 +64,11 @@ match_same {b = false} {c = false} e f g h = g h
 -- the same tasks may take a turn
 can_there : (plan : Plan) (v w : World) (t : ℕ) → WorldTwins v w → CanTurn plan v t → CanTurn plan w t
 can_there plan v w t h can =
-    match_same (same_in_call v w h t) (waits_there v.core w.core t h.cores)
-    (subst (λ (made : List ℕ). IsSome (next_call plan made t)) (sym h.made)) can
+    match_same (same_in_call v w h t) (waits_there v.core w.core t h.cores) (λ may. same_begin plan v w h t ∙ may) can
 
 can_here : (plan : Plan) (v w : World) (t : ℕ) → WorldTwins v w → CanTurn plan w t → CanTurn plan v t
 can_here plan v w t h can =
-    match_same (sym (same_in_call v w h t)) (waits_here v.core w.core t h.cores)
-    (subst (λ (made : List ℕ). IsSome (next_call plan made t)) h.made) can
+    match_same (sym (same_in_call v w h t)) (waits_here v.core w.core t h.cores) (λ may. sym (same_begin plan v w h t) ∙ may) can
 
 same_runnable : (plan : Plan) (v w : World) (n : ℕ) (ts us : List ℕ) → WorldTwins v w → AreRunnableOf plan v n ts
     → AreRunnableOf plan w n us → us ≡ ts

@@ -1,8 +1,8 @@
 -- A turn that leaves what its task's call holds leaves all other tasks as able to take one as they were.
 use Rattle.std.proofs.Common.{◌≡◌, ◌≢◌, ℕ, zero, suc, ◌+◌, ◌-◌, ◌%◌, ◌≤◌, ◌<◌, refl, ap, sym, ◌∙◌, subst, arith, inl, inr}
-use Rattle.std.specs.Prelude.{Bool, true, false, ◌||◌, ◌&&◌, ◌==◌, Option, None, Some, IsSome, List, [], ◌∷◌, MatchBool}
+use Rattle.std.specs.Prelude.{◌⊎◌, Bool, true, false, ◌||◌, ◌&&◌, ◌==◌, Option, None, Some, List, [], ◌∷◌, MatchBool}
 use Rattle.std.specs.Prelude.{is_some, length, nat_le, nat_lt, if◌then◌else◌, slice_get, slice_index, slice_index_or}
-use Rattle.std.specs.List.{All}
+use Rattle.std.specs.List.{All, list_all}
 use Rattle.std.proofs.lemmas.Grind.{common_steps}
 use Rattle.std.proofs.lemmas.List.{get_or-set_other}
 use Rattle.std.proofs.lemmas.List.Elements.{All-append}
@@ -35,7 +35,9 @@ use Rattle.hp_core.specs.State.{CoreState, as_state, task_state_at, calls_of, li
 use Rattle.hp_core.specs.Waiting.{WaitsFor}
 use Rattle.hp_core.proofs.Growing.{HeldOn, held_same}
 use Rattle.hp_core.proofs.Holds.{HoldOn, blocker, holds_on_all, lock_kept, names_nobody, slot_kept, waits_for_nobody}
+use Rattle.hp_explore.specs.declared.needs.Need.{Need}
 use Rattle.hp_explore.specs.Schedule.{Plan, World, Choice, CanTurn, AreRunnable, AreRunnableOf, in_call, next_call, word, drawn}
+use Rattle.hp_explore.specs.Schedule.{may_begin, next_needs, is_over}
 use Rattle.hp_explore.specs.Schedule.{call_choice, kill_choice, step_choice, task_choice}
 
 -- two states of which the calls hold the same
@@ -208,11 +210,11 @@ can_same false true e f g h = absurd (cc)
 
 still_can : (plan : Plan) (w v : World) (t : ℕ) → HoldAlike (as_state w.core) (as_state v.core)
     → (as_state v.core).calls t ≡ (as_state w.core).calls t → (as_state v.core).life t ≡ (as_state w.core).life t
-    → next_call plan v.made t ≡ next_call plan w.made t → CanTurn plan w t → CanTurn plan v t
+    → may_begin plan v t ≡ may_begin plan w t → CanTurn plan w t → CanTurn plan v t
 unfolding phase_of
-still_can plan w v t h calls life next can =
+still_can plan w v t h calls life begins can =
     can_same (in_call w t) (in_call v t) (ap (λ (c : Option Call). is_some (option_map word_of c)) calls)
-    (waits_alike w.core v.core t h calls life) (λ some. subst (λ (o : Option Op). IsSome o) (sym next) some) can
+    (waits_alike w.core v.core t h calls life) (λ may. begins ∙ may) can
 
 -- the list of the tasks that can take a turn is the same where they are the same
 listed_alike : (plan : Plan) (w v : World) (n : ℕ) (tasks : List ℕ)
@@ -262,14 +264,68 @@ next_stays plan w v made t u choice leaves begun same_made one above other =
     ∙ ap (λ (m : List ℕ). slice_index m (u - 1)) same_made in
     ap (λ (n : ℕ). slice_get (slice_index_or plan.queues (u - 1) []) n) at
 
+-- a choice of a task whose call is in flight begins none
+keeps_made : (busy alive : Bool) (plan : Plan) (made : List ℕ) (t : ℕ) (rng : Lcg) → busy ≡ true
+    → (task_choice plan busy alive made t rng).made ≡ made
+keeps_made busy alive plan made t rng flight =
+    ap (λ (b : Bool). (task_choice plan b alive made t rng).made) flight ∙ by (plan.kill == 0)
+    (nat_lt (word rng % 1000) plan.kill && alive)
+  where
+    by : (none killed : Bool)
+        → (if none then call_choice true (next_call plan made t) plan.deny made t rng
+        else (if killed then kill_choice made t (drawn rng) else call_choice true (next_call plan made t) plan.deny made t
+        (drawn rng))).made ≡ made
+    by true killed = refl
+    by false true = refl
+    by false false = refl
+
+-- a task's calls may be begun as before, where no task has begun or ended one
+alike_begins : (plan : Plan) (w v : World) (t : ℕ) → v.made ≡ w.made → ((u : ℕ) → in_call v u ≡ in_call w u)
+    → may_begin plan v t ≡ may_begin plan w t
+alike_begins plan w v t made flight =
+    λ i. is_some (next_call plan (made i) t)
+    && list_all (λ need. nat_le need.calls (slice_index (made i) (need.place + 1 - 1)
+    - (if flight (need.place + 1) i then 1 else 0))) (next_needs plan (made i) t)
+
+-- or where no call waits
+free_begins : (plan : Plan) (w v : World) (t : ℕ) → plan.needs ≡ [] → next_call plan v.made t ≡ next_call plan w.made t
+    → may_begin plan v t ≡ may_begin plan w t
+free_begins plan w v t none next = free v ∙ (ap (λ (o : Option Op). is_some o && true) next ∙ sym (free w))
+  where
+    free : (x : World) → may_begin plan x t ≡ (is_some (next_call plan x.made t) && true)
+    free x =
+        ap (λ (ns : List (List (List Need))). is_some (next_call plan x.made t)
+        && list_all (is_over x) (slice_index_or (slice_index_or ns (t - 1) []) (slice_index x.made (t - 1)) [])) none
+
+-- A turn ends no call for which others wait: no call waits, or the task's call is in flight before it and behind it.
+abbrev pub EndsNone : Plan → (busy : Bool) → World → (task : ℕ) → Type 0
+EndsNone plan busy v t = (plan.needs ≡ []) ⊎ ((busy ≡ true) × (in_call v t ≡ true))
+
+-- then another task may begin a call where it might before
+pub begins_on : (plan : Plan) (w v : World) (made : List ℕ) (t u : ℕ) (busy alive : Bool) (rng : Lcg) → EndsNone plan busy v t
+    → made ≡ w.made → busy ≡ in_call w t → v.made ≡ (task_choice plan busy alive made t rng).made
+    → ((u : ℕ) → u ≢ t → (as_state v.core).calls u ≡ (as_state w.core).calls u)
+    → 1 ≤ t → 1 ≤ u → u ≢ t → may_begin plan v u ≡ may_begin plan w u
+unfolding phase_of
+begins_on plan w v made t u busy alive rng (inl none) same_made flight begun stay one above other =
+    free_begins plan w v u none
+    (next_stays plan w v made t u (task_choice plan busy alive made t rng)
+    (choice_leaves plan busy alive made t rng) begun same_made one above other)
+begins_on plan w v made t u busy alive rng (inr (was, is)) same_made flight begun stay one above other =
+    alike_begins plan w v u (begun ∙ (keeps_made busy alive plan made t rng was ∙ same_made)) (λ n. elim (same_or_other n t) [
+      | inl e ↦ ap (λ (k : ℕ). in_call v k) e ∙ (is ∙ (sym was ∙ (flight ∙ ap (λ (k : ℕ). in_call w k) (sym e))))
+      | inr away ↦ ap (λ (c : Option Call). is_some (option_map word_of c)) (stay n away)
+    ])
+
 -- So after a turn that leaves what its task's call holds, and after which the task can take another, the same tasks can take one.
 pub list_stays : (plan : Plan) (w v : World) (core : CoreState) (made : List ℕ) (event : Event) (o : Outcome) (t : ℕ) (busy alive : Bool)
     (rng : Lcg) (tasks : List ℕ) → core ≡ w.core → made ≡ w.made → IsReached (as_state core) → Row core event o v.core
     → event ≡ (task_choice plan busy alive made t rng).event → v.made ≡ (task_choice plan busy alive made t rng).made
+    → busy ≡ in_call w t → EndsNone plan busy v t
     → 1 ≤ t → holding_of v.core t ≡ holding_of core t → CanTurn plan w t → CanTurn plan v t
     → AreRunnable plan w tasks → AreRunnable plan v tasks
 unfolding Row
-list_stays plan w v core made event o t busy alive rng tasks same_core same_made reached row chosen begun one held could can listed =
+list_stays plan w v core made event o t busy alive rng tasks same_core same_made reached row chosen begun flight quiet one held could can listed =
     subst (λ (n : ℕ). AreRunnableOf plan v n tasks) (sym long) (listed_alike plan w v (length w.made) tasks on back listed)
   where
     of : (u : ℕ) → IsOf u event → u ≡ t
@@ -286,14 +342,15 @@ list_stays plan w v core made event o t busy alive rng tasks same_core same_made
         subst (λ (s : CoreState). HoldAlike (as_state s) (as_state v.core)) same_core
         (held_alike core v.core event o t reached row of held)
 
-    next : (u : ℕ) → 1 ≤ u → u ≢ t → next_call plan v.made u ≡ next_call plan w.made u
-    next u above other = next_stays plan w v made t u (task_choice plan busy alive made t rng) leaves begun same_made one above other
-
     stay : (u : ℕ) → u ≢ t → ((as_state v.core).calls u ≡ (as_state w.core).calls u) × ((as_state v.core).life u ≡ (as_state w.core).life u)
     stay u other =
         subst (λ (s : CoreState). ((as_state v.core).calls u ≡ (as_state s).calls u) × ((as_state v.core).life u ≡ (as_state s).life u))
         same_core
         (others_stay (as_state core) (as_state v.core) event o u row.0 (λ is. other (of u is)))
+
+    next : (u : ℕ) → 1 ≤ u → u ≢ t → may_begin plan v u ≡ may_begin plan w u
+    next u above other =
+        begins_on plan w v made t u busy alive rng quiet same_made flight begun (λ n away. (stay n away).0) one above other
 
     on : (u : ℕ) → 1 ≤ u → u ≤ length w.made → CanTurn plan w u → CanTurn plan v u
     on u above within was = elim (same_or_other u t) [

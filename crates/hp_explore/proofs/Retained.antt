@@ -1,6 +1,6 @@
 -- A turn that leaves no slot and no lock makes nobody able to take one who couldn't: the tasks that can are some of those that could.
 use Rattle.std.proofs.Common.{◌≡◌, ◌≢◌, ℕ, zero, suc, ◌≤◌, refl, ap, sym, ◌∙◌, subst, arith, inl, inr, true≢false}
-use Rattle.std.specs.Prelude.{Bool, true, false, Option, None, Some, IsSome, List, [], ◌∷◌, ◌++◌, MatchBool, filter, cond}
+use Rattle.std.specs.Prelude.{Bool, true, false, Option, None, Some, List, [], ◌∷◌, ◌++◌, MatchBool, filter, cond}
 use Rattle.std.specs.Prelude.{is_none, is_some, length, if◌then◌else◌}
 use Rattle.std.specs.Prelude.{◌⊎◌}
 use Rattle.std.proofs.lemmas.List.{append-nil}
@@ -8,7 +8,6 @@ use Rattle.std.proofs.lemmas.List.Elements.{filter-append}
 use Rattle.rand_pcg.specs.Lcg.{Lcg}
 use Rattle.std.specs.Option.{option_map}
 use Rattle.hp_base.proofs.Puts.{same_or_other}
-use Rattle.hp_base.specs.declared.event.Op.{Op}
 use Rattle.hp_base.specs.declared.event.Event.{Event}
 use Rattle.hp_machine.specs.Events.{IsReached, word_of}
 use Rattle.hp_machine.specs.declared.call.Call.{Call}
@@ -25,9 +24,9 @@ use Rattle.hp_core.specs.Waiting.{WaitsFor}
 use Rattle.hp_core.proofs.Growing.{HeldOn}
 use Rattle.hp_core.proofs.Holds.{HoldOn, blocker, holds_on_all, keep_holders, names_nobody, still_for, waits_for_nobody}
 use Rattle.hp_core.proofs.Waits.{nobody}
-use Rattle.hp_explore.specs.Schedule.{Plan, World, CanTurn, AreRunnable, AreRunnableOf, in_call, next_call, task_choice}
+use Rattle.hp_explore.specs.Schedule.{Plan, World, CanTurn, AreRunnable, AreRunnableOf, in_call, may_begin, task_choice}
 use Rattle.hp_explore.specs.CanNow.{can_now}
-use Rattle.hp_explore.proofs.Others.{LeavesOthers, can_same, choice_leaves, next_stays, of_choice}
+use Rattle.hp_explore.proofs.Others.{EndsNone, LeavesOthers, begins_on, can_same, choice_leaves, of_choice}
 
 none_if : (a b : Option ℕ) → ((h : ℕ) → a ≡ Some h → b ≡ Some h) → b ≡ None → a ≡ None
 none_if None b on e = refl
@@ -46,11 +45,11 @@ free_before s v t h calls life free =
 
 could_before : (plan : Plan) (w v : World) (t : ℕ) → HoldOn (as_state w.core) (as_state v.core)
     → (as_state v.core).calls t ≡ (as_state w.core).calls t → (as_state v.core).life t ≡ (as_state w.core).life t
-    → next_call plan v.made t ≡ next_call plan w.made t → CanTurn plan v t → CanTurn plan w t
+    → may_begin plan v t ≡ may_begin plan w t → CanTurn plan v t → CanTurn plan w t
 unfolding phase_of
-could_before plan w v t h calls life next can =
+could_before plan w v t h calls life begins can =
     can_same (in_call v t) (in_call w t) (ap (λ (c : Option Call). is_some (option_map word_of c)) (sym calls))
-    (free_before w.core v.core t h calls life) (λ some. subst (λ (o : Option Op). IsSome o) next some) can
+    (free_before w.core v.core t h calls life) (λ may. sym begins ∙ may) can
 
 by_word : {A B : Type 0} (b c d : Bool) → ((c ≡ true → A) × (A → c ≡ true)) → ((d ≡ true → B) × (B → d ≡ true))
     → (((if b then c else d) ≡ true → MatchBool b A B) × (MatchBool b A B → (if b then c else d) ≡ true))
@@ -65,7 +64,7 @@ is_nobody (Some h) e = never e
 pub tells_can : (plan : Plan) (w : World) (t : ℕ) → (can_now plan w t ≡ true → CanTurn plan w t)
     × (CanTurn plan w t → can_now plan w t ≡ true)
 tells_can plan w t =
-    by_word (in_call w t) (is_none (task_blocker w.core.parts (task_state_at w.core.task_states t))) (is_some (next_call plan w.made t))
+    by_word (in_call w t) (is_none (task_blocker w.core.parts (task_state_at w.core.task_states t))) (may_begin plan w t)
     ((λ e. waits_for_nobody w.core t (is_nobody _ e)), (λ free. ap (λ (o : Option ℕ). is_none o) (names_nobody w.core t free)))
     ((λ e. e), (λ e. e))
 
@@ -110,10 +109,11 @@ struck plan w v (suc n) tasks back (front, before, last) =
 pub list_struck : (plan : Plan) (w v : World) (core : CoreState) (made : List ℕ) (event : Event) (o : Outcome) (t : ℕ) (busy alive : Bool)
     (rng : Lcg) (tasks : List ℕ) → core ≡ w.core → made ≡ w.made → IsReached (as_state core) → Row core event o v.core
     → event ≡ (task_choice plan busy alive made t rng).event → v.made ≡ (task_choice plan busy alive made t rng).made
+    → busy ≡ in_call w t → EndsNone plan busy v t
     → 1 ≤ t → HeldOn (holding_of core t) (holding_of v.core t) → CanTurn plan w t
     → AreRunnable plan w tasks → AreRunnable plan v (filter (can_now plan v) tasks)
 unfolding Row
-list_struck plan w v core made event o t busy alive rng tasks same_core same_made reached row chosen begun one held could listed =
+list_struck plan w v core made event o t busy alive rng tasks same_core same_made reached row chosen begun flight quiet one held could listed =
     subst (λ (n : ℕ). AreRunnableOf plan v n (filter (can_now plan v) tasks)) (sym long) (struck plan w v (length w.made) tasks back listed)
   where
     of : (u : ℕ) → IsOf u event → u ≡ t
@@ -128,14 +128,15 @@ list_struck plan w v core made event o t busy alive rng tasks same_core same_mad
     on : HoldOn (as_state w.core) (as_state v.core)
     on = subst (λ (s : CoreState). HoldOn (as_state s) (as_state v.core)) same_core (holds_on_all core v.core event o t reached row of held)
 
-    next : (u : ℕ) → 1 ≤ u → u ≢ t → next_call plan v.made u ≡ next_call plan w.made u
-    next u above other = next_stays plan w v made t u (task_choice plan busy alive made t rng) leaves begun same_made one above other
-
     stay : (u : ℕ) → u ≢ t → ((as_state v.core).calls u ≡ (as_state w.core).calls u) × ((as_state v.core).life u ≡ (as_state w.core).life u)
     stay u other =
         subst (λ (s : CoreState). ((as_state v.core).calls u ≡ (as_state s).calls u) × ((as_state v.core).life u ≡ (as_state s).life u))
         same_core
         (others_stay (as_state core) (as_state v.core) event o u row.0 (λ is. other (of u is)))
+
+    next : (u : ℕ) → 1 ≤ u → u ≢ t → may_begin plan v u ≡ may_begin plan w u
+    next u above other =
+        begins_on plan w v made t u busy alive rng quiet same_made flight begun (λ n away. (stay n away).0) one above other
 
     back : (u : ℕ) → 1 ≤ u → u ≤ length w.made → CanTurn plan v u → CanTurn plan w u
     back u above within is = elim (same_or_other u t) [

@@ -1,7 +1,7 @@
 -- The tasks that may take a turn.
 use Rattle.std.proofs.Common.{◌≡◌, ℕ, zero, suc, ◌+◌, ◌<◌, ◌≤◌, inl, inr, List, [], ◌∷◌}
 use Rattle.std.proofs.Common.{◌++◌, length, length-append, add-one, refl, sym, ap, ◌∙◌, subst, arith}
-use Rattle.std.specs.Prelude.{Bool, true, false, not, ◌&&◌, ◌==◌, Option, None, Some, is_none, is_some, IsSome}
+use Rattle.std.specs.Prelude.{Bool, true, false, not, ◌&&◌, ◌==◌, Option, None, Some, is_none, is_some, IsSome, IsTrue}
 use Rattle.std.specs.Prelude.{MatchBool, if◌then◌else◌}
 use Rattle.std.specs.List.{All, range_with_len, list_all}
 use Rattle.std.proofs.lemmas.List.Elements.{All-append}
@@ -12,7 +12,6 @@ use Rattle.hp_machine.specs.Events.{IsReached}
 use Rattle.hp_machine.specs.Events.{word_of}
 use Rattle.std.specs.Option.{option_map}
 use Rattle.hp_machine.specs.declared.call.Call.{Call}
-use Rattle.hp_machine.specs.declared.phase.Phase.{Phase}
 use Rattle.hp_laws.specs.Bounds.{IsUnblocked}
 use Rattle.hp_laws.proofs.Meets.{caller_there}
 use Rattle.hp_laws.proofs.Waiting.{some_call_goes_on}
@@ -20,31 +19,22 @@ use Rattle.hp_core.specs.State.{as_state}
 use Rattle.hp_core.specs.Readers.{config_of, phase_of}
 use Rattle.hp_core.specs.Runs.{IsOfConfig, Row}
 use Rattle.hp_core.specs.Waiting.{WaitsFor}
-use Rattle.hp_explore.specs.Schedule.{Plan, World, CanTurn, AreRunnableOf, in_call, next_call}
+use Rattle.hp_explore.specs.Schedule.{Plan, World, CanTurn, AreRunnableOf, IsPlan, in_call, may_begin, next_call}
 use Rattle.hp_explore.specs.Explored.{is_done, all_done, idle_finish}
 use Rattle.hp_explore.specs.declared.line.Finish.TheVariants.{Finished, Stuck}
 use Rattle.hp_explore.proofs.Twins.{still_some}
-
--- a task without a call in flight may take a turn exactly where it has a call left
-pub idle_can : (plan : Plan) (w : World) (t : ℕ) → phase_of w.core t ≡ None → IsSome (next_call plan w.made t) → CanTurn plan w t
-idle_can plan w t idle next =
-    subst (λ (o : Option Phase). MatchBool (is_some o) (WaitsFor w.core t None) (IsSome (next_call plan w.made t))) (sym idle) next
-
-pub idle_cannot : (plan : Plan) (w : World) (t : ℕ) → phase_of w.core t ≡ None → (IsSome (next_call plan w.made t) → ⊥)
-    → CanTurn plan w t → ⊥
-idle_cannot plan w t idle none can =
-    none (subst (λ (o : Option Phase). MatchBool (is_some o) (WaitsFor w.core t None) (IsSome (next_call plan w.made t))) idle can)
+use Rattle.hp_explore.proofs.Awaiting as nobody
 
 -- one with a call in flight exactly where it waits for nobody
 pub free_can : (plan : Plan) (w : World) (t : ℕ) → IsSome (phase_of w.core t) → WaitsFor w.core t None → CanTurn plan w t
 free_can plan w t busy free =
-    subst (λ (b : Bool). MatchBool b (WaitsFor w.core t None) (IsSome (next_call plan w.made t))) (sym busy) free
+    subst (λ (b : Bool). MatchBool b (WaitsFor w.core t None) (IsTrue (may_begin plan w t))) (sym busy) free
 
 pub held_cannot : (plan : Plan) (w : World) (t holder : ℕ) → IsSome (phase_of w.core t) → WaitsFor w.core t (Some holder)
     → CanTurn plan w t → ⊥
 unfolding WaitsFor
 held_cannot plan w t holder busy held can =
-    (subst (λ (b : Bool). MatchBool b (WaitsFor w.core t None) (IsSome (next_call plan w.made t))) busy can) true holder w.core (held true)
+    (subst (λ (b : Bool). MatchBool b (WaitsFor w.core t None) (IsTrue (may_begin plan w t))) busy can) true holder w.core (held true)
 
 -- the list is made task by task
 pub one_more : (plan : Plan) (w : World) (n : ℕ) (tasks more : List ℕ) → AreRunnableOf plan w n tasks → CanTurn plan w (n + 1)
@@ -115,7 +105,7 @@ goes_on : (plan : Plan) (w : World) (u : ℕ) (d : Call) → (as_state w.core).c
 unfolding phase_of WaitsFor Row
 goes_on plan w u d call free =
     let busy : in_call w u ≡ true = ap (λ (o : Option Call). is_some (option_map word_of o)) call in
-    subst (λ (b : Bool). MatchBool b (WaitsFor w.core u None) (IsSome (next_call plan w.made u))) (sym busy)
+    subst (λ (b : Bool). MatchBool b (WaitsFor w.core u None) (IsTrue (may_begin plan w u))) (sym busy)
     (λ grant holder new row. free grant holder (as_state new) row.0)
 
 -- where no task may take a turn, no call is in flight
@@ -149,25 +139,25 @@ none_left None h = refl
 none_left (Some x) h = absurd (h refl)
 
 -- so where no task may take a turn, each is done
-pub idle_done : (plan : Plan) (w : World) → IsReached (as_state w.core) → length w.made ≡ (as_state w.core).geometry.tasks
-    → AreRunnableOf plan w (length w.made) [] → all_done plan w ≡ true
-idle_done plan w reached many idle =
+pub idle_done : (plan : Plan) (w : World) → IsPlan plan (length w.made) → IsReached (as_state w.core)
+    → length w.made ≡ (as_state w.core).geometry.tasks → AreRunnableOf plan w (length w.made) [] → all_done plan w ≡ true
+idle_done plan w is reached many idle =
     all_of_range (is_done plan w) 1 (length w.made) (λ t one within. each t one (omega (arith, within)))
   where
     each : (t : ℕ) → 1 ≤ t → t ≤ length w.made → is_done plan w t ≡ true
     each t one within =
-        let cannot = none_can plan w (length w.made) t idle one within in
         let idles = rests plan w t reached many idle in
-        let none : is_none (next_call plan w.made t) ≡ true = none_left (next_call plan w.made t) (λ some.
-        cannot (subst (λ (b : Bool). MatchBool b (WaitsFor w.core t None) (IsSome (next_call plan w.made t))) (sym idles) some)) in
+        let none : is_none (next_call plan w.made t) ≡ true = none_left (next_call plan w.made t)
+        (λ some. nobody.none_left plan w is (λ u low high. rests plan w u reached many idle)
+        (λ u low high. none_can plan w (length w.made) u idle low high) t one within some) in
         λ i. not (idles i) && none i
 
 -- and the run has come to its end
-pub idle_ends : (plan : Plan) (w : World) → IsReached (as_state w.core) → IsOfConfig w.core
+pub idle_ends : (plan : Plan) (w : World) → IsPlan plan (length w.made) → IsReached (as_state w.core) → IsOfConfig w.core
     → (config_of w.core).tasks ≡ length w.made
     → AreRunnableOf plan w (length w.made) [] → Finished ≡ idle_finish plan w
 unfolding config_of
-idle_ends plan w reached sized many idle =
+idle_ends plan w is reached sized many idle =
     let tasks : (as_state w.core).geometry.tasks ≡ w.core.sizes.tasks = ap (λ (g : Geometry). g.tasks) sized.0 in
-    let done = idle_done plan w reached (sym many ∙ sym tasks) idle in
+    let done = idle_done plan w is reached (sym many ∙ sym tasks) idle in
     sym (ap (λ (b : Bool). if b then Finished else Stuck) done)

@@ -7,3 +7,4 @@ pub mod RunLines
 pub mod Schedule
 pub mod SoFar
 pub mod Text
+pub mod CountedCalls

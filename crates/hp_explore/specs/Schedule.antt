@@ -1,10 +1,10 @@
 -- A run of a script, turn by turn: the words of a generator pick the tasks, the denials and the kills.
 use Rattle.std.specs.Prelude.{◌≡◌, ◌==◌, ◌+◌, ◌-◌, ◌%◌, ◌&&◌, ◌⊎◌, ◌<◌, ℕ, zero, suc}
 use Rattle.std.specs.Prelude.{Bool, true, false, List, [], ◌∷◌, ◌++◌}
-use Rattle.std.specs.Prelude.{Option, None, Some, IsSome, length, map, replicate, slice_get, slice_index}
+use Rattle.std.specs.Prelude.{Option, None, Some, IsTrue, length, filter, map, take, replicate, slice_get, slice_index}
 use Rattle.std.specs.Prelude.{slice_index_or, slice_set}
 use Rattle.std.specs.Prelude.{nat_lt, nat_le, is_some, if◌then◌else◌, MatchBool}
-use Rattle.std.specs.List.{range_with_len}
+use Rattle.std.specs.List.{range_with_len, list_all}
 use Rattle.rand_core.specs.Pcg32Seed.{pcg32_seed}
 use Rattle.rand_pcg.specs.Lcg.{Lcg}
 use Rattle.rand_pcg.specs.Pcg.{pcg32, pcg32_of_seed}
@@ -19,20 +19,62 @@ use Rattle.hp_core.specs.Runs.{Row, IsOpening}
 use Rattle.hp_core.specs.Waiting.{WaitsFor}
 use Rattle.hp_text.specs.Scripts.{calls_of}
 use Rattle.hp_text.specs.declared.script.Script.{Script}
+use Rattle.hp_text.specs.declared.script.Wait.{Wait}
+use Rattle.hp_explore.specs.declared.needs.Need.{Need}
 
 -- the calls of each task, from task 1; lines of a task that isn't there are no calls
 abbrev pub queues_of : List (ℕ × Op) → (tasks : ℕ) → List (List Op)
 queues_of lines tasks = map (calls_of lines) (range_with_len 1 tasks)
 
--- what every run of an exploration goes by: the calls of each task, and of a thousand steps how many are denied, of a
--- thousand turns how many are kills
+-- the places of the task's calls among these lines, of which the first stands at this place
+abbrev pub places_from : (place : ℕ) → List (ℕ × Op) → (task : ℕ) → List ℕ
+places_from place [] t = []
+places_from place (line ∷ lines) t =
+    if line.0 == t then place ∷ places_from (place + 1) lines t else places_from (place + 1) lines t
+
+-- the wait is of the call at this place, and for one of so many tasks
+abbrev pub is_wait_of : (place tasks : ℕ) → Wait → Bool
+is_wait_of place tasks wait = wait.call == place && (nat_le 1 wait.task && nat_le wait.task tasks)
+
+-- what it asks for: as many ended calls of the task as stand on earlier lines
+abbrev pub need_of : List (ℕ × Op) → (place : ℕ) → Wait → Need
+need_of lines place wait = record { place = wait.task - 1; calls = length (calls_of (take place lines) wait.task) }
+
+-- what the call at this place waits for
+abbrev pub needs_at : List (ℕ × Op) → List Wait → (tasks place : ℕ) → List Need
+needs_at lines waits tasks place = map (need_of lines place) (filter (is_wait_of place tasks) waits)
+
+-- what each call of the task waits for
+abbrev pub task_needs : List (ℕ × Op) → List Wait → (tasks task : ℕ) → List (List Need)
+task_needs lines waits tasks t = map (needs_at lines waits tasks) (places_from 0 lines t)
+
+-- the same of each task, from task 1; where no call waits, nothing
+abbrev pub needs_of : List (ℕ × Op) → List Wait → (tasks : ℕ) → List (List (List Need))
+needs_of lines [] tasks = []
+needs_of lines (wait ∷ waits) tasks = map (task_needs lines (wait ∷ waits) tasks) (range_with_len 1 tasks)
+
+-- what every run of an exploration goes by: the calls of each task, what each waits for, and of a thousand steps how many are
+-- denied, of a thousand turns how many are kills
 pub record Plan : Type 0 where
   pub queues : List (List Op)
+  pub needs : List (List (List Need))
   pub deny : ℕ
   pub kill : ℕ
 
 abbrev pub plan_of : Script → (deny kill : ℕ) → Plan
-plan_of script deny kill = record { queues = queues_of script.calls.items script.config.tasks; deny = deny; kill = kill }
+plan_of script deny kill = record {
+  queues = queues_of script.calls.items script.config.tasks;
+  needs = needs_of script.calls.items script.waits.items script.config.tasks;
+  deny = deny;
+  kill = kill;
+}
+
+-- the plan is that of some lines, for so many tasks
+pub record IsPlan (plan : Plan) (tasks : ℕ) : Type 0 where
+  pub lines : List (ℕ × Op)
+  pub waits : List Wait
+  pub queues : plan.queues ≡ queues_of lines tasks
+  pub needs : plan.needs ≡ needs_of lines waits tasks
 
 -- a run between two turns: the core, how many of its calls each task has begun, the generator, and the turns made
 pub record World : Type 0 where
@@ -60,9 +102,25 @@ in_call w t = is_some (phase_of w.core t)
 abbrev pub next_call : Plan → (made : List ℕ) → (task : ℕ) → Option Op
 next_call plan made t = slice_get (slice_index_or plan.queues (t - 1) []) (slice_index made (t - 1))
 
--- the task may take a turn: it has a call in flight whose next step isn't blocked, or none in flight and calls left
+-- how many of its calls the task has ended: all that it has begun, but for one that is in flight
+abbrev pub ended : World → (task : ℕ) → ℕ
+ended w t = slice_index w.made (t - 1) - (if in_call w t then 1 else 0)
+
+-- the task has ended so many calls
+abbrev pub is_over : World → Need → Bool
+is_over w need = nat_le need.calls (ended w (need.place + 1))
+
+-- what the call waits for that the task makes next
+abbrev pub next_needs : Plan → (made : List ℕ) → (task : ℕ) → List Need
+next_needs plan made t = slice_index_or (slice_index_or plan.needs (t - 1) []) (slice_index made (t - 1)) []
+
+-- the task has a call left, and all that it waits for is over
+abbrev pub may_begin : Plan → World → (task : ℕ) → Bool
+may_begin plan w t = is_some (next_call plan w.made t) && list_all (is_over w) (next_needs plan w.made t)
+
+-- the task may take a turn: it has a call in flight whose next step isn't blocked, or none in flight and may begin one
 abbrev pub CanTurn : Plan → World → (task : ℕ) → Type 0
-CanTurn plan w t = MatchBool (in_call w t) (WaitsFor w.core t None) (IsSome (next_call plan w.made t))
+CanTurn plan w t = MatchBool (in_call w t) (WaitsFor w.core t None) (IsTrue (may_begin plan w t))
 
 -- of the first n tasks these may take a turn, in ascending order
 unfoldable pub AreRunnableOf : Plan → World → (n : ℕ) → List ℕ → Type 0

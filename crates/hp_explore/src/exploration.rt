@@ -30,7 +30,7 @@ pub struct Exploration {
 }
 
 /// How many runs are explored before the first lines are written.
-const FIRST_PART: u32 = 512;
+const FIRST_PART: u32 = 16;
 /// How many lines are kept at most until they are written.
 const MOST_PART: u32 = 16_384;
 /// A part of fewer turns is soon done.

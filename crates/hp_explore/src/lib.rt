@@ -12,6 +12,7 @@ mod exploration;
 mod exploring;
 mod laws;
 mod line;
+mod needs;
 mod plan;
 mod remainders;
 mod run_lines;

@@ -1,8 +1,9 @@
 //! What every run of an exploration goes by.
-ghost use Rattle.std.specs.Prelude.{◌≡◌, ◌+◌, ◌-◌, ◌<◌, ◌≤◌, ◌^◌, IsSome, [], IfOk, slice_get, slice_index_or, map};
+ghost use Rattle.std.specs.Prelude.{◌≡◌, ◌+◌, ◌-◌, ◌<◌, ◌≤◌, ◌^◌, false, IsSome, [], IfOk, slice_get, slice_index_or, map};
 ghost use Rattle.hp_text.specs.Scripts.{calls_of};
 ghost use Rattle.hp_explore.specs.Schedule.{plan_of, queues_of};
 
+use crate::needs::{Need, needs_of};
 use crate::remainders::Remainders;
 use hp_base::{Op, Task};
 use hp_text::Script;
@@ -16,10 +17,12 @@ pub struct Chances {
     pub kill: u32,
 }
 
-/// The calls of each task, in order, and the chances. It is made once, and no run changes it.
+/// The calls of each task, in order, what each waits for, and the chances. It is made once, and no run changes it.
 #[derive(Drop)]
 pub struct Plan {
     queues: Vec<Vec<Op>>,
+    // of each call of each task; none where no call waits
+    needs: Vec<Vec<Vec<Need>>>,
     pub(crate) chances: Chances,
     pub(crate) remainders: Remainders,
 }
@@ -32,6 +35,7 @@ impl Model for Plan {
 
     ghost view = { λ p. record {
       queues = map (λ v. v.items) p.queues.items;
+      needs = map (λ queue. map (λ v. v.items) queue.items) p.needs.items;
       deny = p.chances.deny;
       kill = p.chances.kill;
     } };
@@ -43,8 +47,10 @@ impl Plan {
         ensures { IfOk result (λ plan. plan ≡ plan_of script.now chances.deny chances.kill) }
     {
         let queues = queues_of(alloc, script)?;
+        let needs = needs_of(alloc, script)?;
         Ok(Plan {
             queues,
+            needs,
             chances,
             remainders: Remainders::new(),
         })
@@ -59,6 +65,29 @@ impl Plan {
     {
         let queue = self.queues.get(task as usize - 1)?;
         queue.get(place).copied()
+    }
+
+    /// Whether calls wait for tasks.
+    #[inline(always)]
+    pub(crate) fn has_waits(&self) -> bool
+        ensures { result ≡ false → self.now.needs ≡ [] }
+    {
+        !self.needs.is_empty()
+    }
+
+    /// What the call of the task at this place waits for.
+    #[inline(always)]
+    pub(crate) fn needs(&self, task: u32, place: usize) -> &[Need]
+        requires { 1 ≤ task }
+        ensures { result.now ≡ slice_index_or (slice_index_or self.now.needs (task - 1) []) place [] }
+    {
+        match self.needs.get(task as usize - 1) {
+            Some(queue) => match queue.get(place) {
+                Some(needs) => needs.as_slice(),
+                None => &[],
+            },
+            None => &[],
+        }
     }
 }
 

@@ -2,9 +2,11 @@
 ghost use Rattle.std.specs.Prelude.{◌≡◌, ◌+◌, ◌<◌, [], None, IfOk, IfSome, OnOk};
 ghost use Rattle.hp_core.specs.Runs.{IsOpening, Row};
 ghost use Rattle.hp_explore.specs.Schedule.{plan_of};
-ghost use Rattle.hp_explore.specs.SoFar.{Ends, GoesOn, IsBetweenTurns, IsSoFar};
+ghost use Rattle.hp_explore.specs.Explored.{EndsWell};
+ghost use Rattle.hp_explore.specs.SoFar.{Ends, EndsAs, GoesOn, IsBetweenTurns, IsOver, IsSoFar};
 
 use crate::exploring::TURN_LIMIT;
+use crate::line::RunLine;
 use crate::plan::Plan;
 use crate::runnable_tasks::RunnableTasks;
 use crate::turned::Turned;
@@ -70,6 +72,7 @@ impl ScheduledRun {
         ensures between { OnOk result (IsBetweenTurns plan.now self.new) }
         ensures ends { IfOk result (λ turn. turn ≡ None → Ends plan.now self.old) }
         ensures stays { IfOk result (λ turn. turn ≡ None → self.new.world ≡ self.old.world) }
+        ensures over { IfOk result (λ turn. turn ≡ None → IsOver plan.now self.new) }
     {
         // The checker of borrows asks for a mention of the types that a turn may hold.
         let _none: (Option<Op>, Option<Answer>) = (None, None);
@@ -79,6 +82,17 @@ impl ScheduledRun {
         let turned = self.walk.turn(plan, &mut self.tasks)?;
         self.walk.is_clean();
         Ok(turned)
+    }
+
+    /// The line of run number `run`, which is over.
+    pub fn line(&self, plan: &Plan, run: u32) -> RunLine
+        requires between { IsBetweenTurns plan.now self.now }
+        requires over { IsOver plan.now self.now }
+        ensures line { EndsAs plan.now self.now run result }
+        ensures ends { EndsWell result.finish }
+    {
+        let finish = self.walk.last_finish(plan, &self.tasks);
+        self.walk.line(run, finish)
     }
 
     /// The core between the turns.

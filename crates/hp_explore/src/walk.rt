@@ -1,20 +1,23 @@
 //! One run, turn by turn. A turn takes about a hundred nanoseconds, so what it calls is inlined: a call that isn't passes
 //! what it answers through memory.
 ghost use Rattle.std.specs.Prelude.{◌≡◌, ◌+◌, ◌-◌, ◌<◌, ◌≤◌, ◌^◌, true, false, [], None, Some, IfOk, IfSome, OnOk};
-ghost use Rattle.std.specs.Prelude.{ℕ, IsSome, All, filter, length, replicate, slice_index};
+ghost use Rattle.std.specs.Prelude.{◌⊎◌, ℕ, IsSome, All, filter, is_some, length, replicate, slice_index};
+ghost use Rattle.std.specs.List.{list_all};
 ghost use Rattle.hp_machine.specs.State.{is_alive};
 ghost use Rattle.hp_core.specs.Readers.{life_of, phase_of, config_of};
 ghost use Rattle.hp_core.specs.Runs.{Row};
 ghost use Rattle.hp_machine.specs.declared.outcome.Outcome.{Outcome};
 ghost use Rattle.hp_laws.specs.Laws.{IsOf};
 ghost use Rattle.hp_core.specs.Waiting.{WaitsFor};
-ghost use Rattle.hp_explore.specs.Schedule.{IsStart, Turn, CanTurn, AreRunnable, choice_at, next_call, in_call};
+ghost use Rattle.hp_explore.specs.Schedule.{IsPlan, IsStart, Turn, CanTurn, AreRunnable, choice_at, next_call, in_call};
+ghost use Rattle.hp_explore.specs.Schedule.{ended, is_over, may_begin, next_needs};
 ghost use Rattle.hp_core.specs.Passing.{may_wait, task_may_leave, task_may_pass};
 ghost use Rattle.hp_explore.specs.CanNow.{can_now};
 ghost use Rattle.hp_explore.specs.Phases.{Agrees};
 ghost use Rattle.hp_explore.specs.Explored.{EndsWell, IsClean, idle_finish, last_finish, line_of};
 
 use crate::line::{Finish, RunLine};
+use crate::needs::Need;
 use crate::plan::Plan;
 use crate::runnable_tasks::RunnableTasks;
 use crate::turned::Turned;
@@ -167,6 +170,51 @@ impl Walk {
         plan.call(task, self.made[task as usize - 1])
     }
 
+    /// How many of its calls the task at this place has ended.
+    fn ended(&self, place: u32) -> usize
+        ensures { result ≡ ended self.now (place + 1) }
+    {
+        match self.made.get(place as usize) {
+            Some(made) => made.saturating_sub(usize::from(self.in_call(place + 1))),
+            None => 0,
+        }
+    }
+
+    /// Whether that many calls have ended.
+    fn is_over(&self, need: Need) -> bool
+        ensures { result ≡ is_over self.now need }
+    {
+        self.ended(need.place) >= need.calls
+    }
+
+    /// Whether all is over that the call waits for that the task makes next.
+    #[inline(always)]
+    fn are_over(&self, plan: &Plan, task: u32) -> bool
+        requires { (1 ≤ task) × (task ≤ length self.now.made) }
+        ensures { result ≡ list_all (is_over self.now) (next_needs plan.now self.now.made task) }
+    {
+        let needs = plan.needs(task, self.made[task as usize - 1]);
+        for need in needs {
+            if !self.is_over(*need) {
+                return false;
+            }
+        }
+        true
+    }
+
+    /// Whether the task may begin a call.
+    #[inline(always)]
+    fn may_begin(&self, plan: &Plan, task: u32) -> bool
+        requires { (1 ≤ task) × (task ≤ length self.now.made) }
+        ensures { result ≡ may_begin plan.now self.now task }
+    {
+        let has_next = self.next_call(plan, task).is_some();
+        if !plan.has_waits() {
+            return has_next;
+        }
+        has_next && self.are_over(plan, task)
+    }
+
     /// Whether the task may take a turn.
     #[inline(always)]
     fn can_turn(&self, plan: &Plan, task: u32) -> bool
@@ -175,7 +223,7 @@ impl Walk {
         ensures cannot { result ≡ false → ¬ CanTurn plan.now self.now task }
     {
         match self.phase(task) {
-            None => self.next_call(plan, task).is_some(),
+            None => self.may_begin(plan, task),
             Some(at) => !may_wait(at) || self.is_free(task),
         }
     }
@@ -242,8 +290,19 @@ impl Walk {
         }
     }
 
-    /// One turn, of one of these tasks. Where it may leave a slot or a lock, others may go on: the tasks are listed anew. Where
-    /// it may take one, or where its task can't take another, some of these may be held up: they are struck off. Else the same
+    /// Whether a turn of the task, whose call stood there before it, may let others go on: it may leave a slot or a lock, or
+    /// end a call for which others wait.
+    #[inline(always)]
+    fn may_release(&self, plan: &Plan, at: Option<Phase>, task: u32) -> bool
+        requires { (1 ≤ task) × (task ≤ length self.now.made) }
+        ensures keeps { result ≡ false → task_may_leave at ≡ false }
+        ensures goes_on { result ≡ false → (plan.now.needs ≡ []) ⊎ ((is_some at ≡ true) × (in_call self.now task ≡ true)) }
+    {
+        can_leave(at) || (plan.has_waits() && (at.is_none() || !self.in_call(task)))
+    }
+
+    /// One turn, of one of these tasks. Where it may let others go on, the tasks are listed anew. Where its call may take a slot
+    /// or a lock, or where its task can't take another turn, some of these may be held up: they are struck off. Else the same
     /// can take a turn as before.
     #[inline(always)]
     fn turn_of(&mut self, plan: &Plan, tasks: &mut RunnableTasks) -> Result<Turned, AllocError>
@@ -262,7 +321,7 @@ impl Walk {
         let event = self.choose(plan, task);
         self.core.is_reached();
         let outcome = self.make(&event, task)?;
-        if can_leave(at) {
+        if self.may_release(plan, at, task) {
             self.list_runnable(plan, tasks);
         } else if may_pass(at) || !self.can_turn(plan, task) {
             self.strike(plan, tasks);
@@ -332,7 +391,8 @@ impl Walk {
 
     /// How the run ends where no turn is left. These are the tasks that could take one.
     pub(crate) fn last_finish(&self, plan: &Plan, tasks: &RunnableTasks) -> Finish
-        requires { AreRunnable plan.now self.now tasks.now }
+        requires runnable { AreRunnable plan.now self.now tasks.now }
+        requires planned { IsPlan plan.now (length self.now.made) }
         ensures finish { result ≡ last_finish plan.now self.now tasks.now }
         ensures ends { EndsWell result }
     {
@@ -358,9 +418,10 @@ impl Walk {
     }
 
     /// How the run ends where no task may take a turn: no call is left or in flight then, since some call in flight
-    /// is never blocked.
+    /// is never blocked, and of the calls that are left the one on the first line waits for nothing that isn't over.
     pub(crate) fn idle_finish(&self, plan: &Plan) -> Finish
-        requires { AreRunnable plan.now self.now [] }
+        requires idle { AreRunnable plan.now self.now [] }
+        requires planned { IsPlan plan.now (length self.now.made) }
         ensures finish { result ≡ idle_finish plan.now self.now }
         ensures finished { result ≡ Finish.Finished }
     {

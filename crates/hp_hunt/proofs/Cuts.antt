@@ -1,7 +1,8 @@
 -- What is left where events are dropped.
 use Rattle.std.proofs.Common.{◌≡◌, ℕ, zero, suc, ◌+◌, ◌≤◌, List, [], ◌∷◌, ◌++◌, length, take, drop, refl, sym, subst, ap, arith}
-use Rattle.std.proofs.Common.{inl, inr}
-use Rattle.std.specs.Prelude.{Bool, true, false}
+use Rattle.std.proofs.Common.{inl, inr, ◌<◌, ◌∙◌, add-one}
+use Rattle.std.proofs.Math.Seq.{take-suc}
+use Rattle.std.specs.Prelude.{Bool, true, false, slice_index_or}
 use Rattle.std.proofs.lemmas.List.{length-append, length-take, length-drop}
 use Rattle.hp_base.specs.declared.config.Config.{Config}
 use Rattle.hp_base.specs.declared.event.Event.{Event}
@@ -87,3 +88,44 @@ fewer_left left [] is = omega (arith, ap (λ (x : List Event). length x) is)
 fewer_left left (e ∷ events) (inl dropped) = omega (arith, fewer_left left events dropped)
 fewer_left left (e ∷ events) (inr kept) =
     omega (arith, ap (λ (x : List Event). length x) kept.1, fewer_left kept.0 events kept.2)
+
+-- ---- events that are gone over
+
+pub more_kept : (left events : List Event) (e : Event) → IsSubsequence left events → IsSubsequence (left ++ e ∷ []) (events ++ e ∷ [])
+unfolding IsSubsequence
+more_kept left [] e is = inr ([], ap (λ (x : List Event). x ++ e ∷ []) is, refl)
+more_kept left (x ∷ events) e (inl dropped) = inl (more_kept left events e dropped)
+more_kept left (x ∷ events) e (inr (rest, is, kept)) =
+    inr (rest ++ e ∷ [], ap (λ (x : List Event). x ++ e ∷ []) is, more_kept rest events e kept)
+
+pub more_dropped : (left events : List Event) (e : Event) → IsSubsequence left events → IsSubsequence left (events ++ e ∷ [])
+unfolding IsSubsequence
+more_dropped left [] e is = inl is
+more_dropped left (x ∷ events) e (inl dropped) = inl (more_dropped left events e dropped)
+more_dropped left (x ∷ events) e (inr (rest, is, kept)) = inr (rest, is, more_dropped rest events e kept)
+
+module _ (left events : List Event) (place : ℕ) (e : Event) (lt : place < length events) (is : e ≡ slice_index_or events place e)
+    (so_far : IsSubsequence left (take place events)) where
+  one_more : take (place + 1) events ≡ take place events ++ e ∷ []
+  one_more = rw add-one (take-suc events place e lt) ∙ ap (λ (x : Event). take place events ++ x ∷ []) (sym is)
+
+  -- the event at the place is kept
+  pub place_kept : IsSubsequence (left ++ e ∷ []) (take (place + 1) events)
+  place_kept = subst (IsSubsequence (left ++ e ∷ [])) (sym one_more) (more_kept left (take place events) e so_far)
+
+  -- it is dropped
+  pub place_dropped : IsSubsequence left (take (place + 1) events)
+  place_dropped = subst (IsSubsequence left) (sym one_more) (more_dropped left (take place events) e so_far)
+
+-- what was left was taken, or not
+pub kept_left : (old mid left new : List Event) (done : Bool) → (done ≡ true → new ≡ left) → (done ≡ false → new ≡ mid)
+    → IsSubsequence left mid → IsSubsequence mid old → IsSubsequence new old
+kept_left old mid left new true takes keeps less was = left_of_left new mid old (subst (λ (x : List Event). IsSubsequence x mid) (sym (takes refl)) less) was
+kept_left old mid left new false takes keeps less was = subst (λ (x : List Event). IsSubsequence x old) (sym (keeps refl)) was
+
+pub kept_meets : (config : Config) (conditions : List Condition) (mid left new : List Event) (done : Bool)
+    → (done ≡ true → (new ≡ left) × SomeRunMeets config left conditions) → (done ≡ false → new ≡ mid) → SomeRunMeets config mid conditions
+    → SomeRunMeets config new conditions
+kept_meets config conditions mid left new done takes keeps was =
+    step_meets config conditions mid new done
+    (λ is. subst (λ (x : List Event). SomeRunMeets config x conditions) (sym (takes is).0) (takes is).1) keeps was

@@ -1,8 +1,8 @@
 //! Runs that are searched by several workers. Some runs take longer than others, and some processors are slower: so each worker
 //! claims a run, and the next when it is done, until all are claimed or one of them meets the conditions.
 //!
-//! What nobody has claimed yet is told by a counter that all workers share. It is a mere hint: no clause knows what it tells. A
-//! worker tells which of its runs miss a condition. Of the others, whoever claimed them, the first that meets all is looked for at
+//! What nobody has claimed yet is told by a counter that all workers share, and another how many turns they made. These are mere hints:
+//! no clause knows what they tell. A worker tells which of its runs miss a condition. Of the others, whoever claimed them, the first that meets all is looked for at
 //! the end, in order.
 ghost use Rattle.std.specs.Prelude.{◌≡◌, ◌<◌, ◌≤◌, None, IfOk, IfSome, All, true, false, length, replicate};
 ghost use Rattle.hp_hunt.specs.Claims.{AllMiss, AreMarks, AreMissed, IsFirstOf, IsPart, JudgesRun, MissesAt};
@@ -15,7 +15,7 @@ use hp_text::{Script, Trace};
 use rayon::current_num_threads;
 use rayon::prelude::*;
 use std::alloc::{AllocError, Global};
-use std::sync::atomic::{AtomicU32, Ordering};
+use std::sync::atomic::{AtomicU32, AtomicU64, Ordering};
 use std::thread::Threads;
 
 /// Which runs are searched, and for what.
@@ -54,7 +54,12 @@ fn explore_at(
 }
 
 /// The runs that one worker claims, one after the other, up to one that meets all conditions: those that don't, by their places.
-fn claim_runs(alloc: Global, part: Part, next: &AtomicU32) -> Result<Vec<u32>, AllocError>
+fn claim_runs(
+    alloc: Global,
+    part: Part,
+    next: &AtomicU32,
+    turns: &AtomicU64,
+) -> Result<Vec<u32>, AllocError>
     requires { IsPart part }
     ensures { IfOk result (λ missed. AreMissed part.entry missed.items) }
 {
@@ -69,6 +74,7 @@ fn claim_runs(alloc: Global, part: Part, next: &AtomicU32) -> Result<Vec<u32>, A
             next.store(part.count, Ordering::SeqCst);
             return Ok(missed);
         }
+        turns.fetch_add(events.len() as u64, Ordering::SeqCst);
         missed.push(place)?;
     }
     Ok(missed)
@@ -79,6 +85,7 @@ fn claim_all(
     rt: &(impl Threads + Sync),
     alloc: Global,
     part: Part,
+    turns: &AtomicU64,
 ) -> Result<Vec<Vec<u32>>, AllocError>
     requires { IsPart part }
     ensures { IfOk result (λ found. All (λ missed. AreMissed part.entry missed.items) found.items) }
@@ -92,7 +99,7 @@ fn claim_all(
             |_worker: usize| -> Result<Vec<u32>, AllocError>
                 requires { IsPart part }
                 ensures { IfOk result (λ missed. AreMissed part.entry missed.items) }
-            { claim_runs(alloc, part, next) },
+            { claim_runs(alloc, part, next, turns) },
         )
         .collect(rt, alloc)?;
     found
@@ -121,11 +128,16 @@ fn set_marks(part: Part, marks: &mut Vec<bool>, mut missed: Vec<u32>)
 }
 
 /// A mark for each run, which is set only where a worker found that it misses.
-fn marks_of(rt: &(impl Threads + Sync), alloc: Global, part: Part) -> Result<Vec<bool>, AllocError>
+fn marks_of(
+    rt: &(impl Threads + Sync),
+    alloc: Global,
+    part: Part,
+    turns: &AtomicU64,
+) -> Result<Vec<bool>, AllocError>
     requires { IsPart part }
     ensures { IfOk result (λ marks. AreMarks part.entry marks.items) }
 {
-    let mut found = claim_all(rt, alloc, part)?;
+    let mut found = claim_all(rt, alloc, part, turns)?;
     let mut marks = no_marks(alloc, part.count)?;
     while let Some(missed) = found.pop() {
         set_marks(part, &mut marks, missed);
@@ -153,17 +165,18 @@ fn is_met_at(
     explore_at(alloc, part, place, events)
 }
 
-/// The first of these runs that meets all conditions, as a trace.
+/// The first of these runs that meets all conditions, as a trace. The turns that are made are added to `turns`.
 pub(crate) fn search_part(
     rt: &(impl Threads + Sync),
     alloc: Global,
     part: Part,
+    turns: &AtomicU64,
 ) -> Result<Option<Found>, AllocError>
     requires { IsPart part }
     ensures found { IfOk result (λ result. IfSome result (IsFirstOf part.entry)) }
     ensures none { IfOk result (λ result. result ≡ None → AllMiss part.entry) }
 {
-    let marks = marks_of(rt, alloc, part)?;
+    let marks = marks_of(rt, alloc, part, turns)?;
     let mut events = Vec::new(alloc);
     for place in 0..part.count {
         if is_met_at(alloc, part, place, marks[place as usize], &mut events)? {

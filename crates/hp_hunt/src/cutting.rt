@@ -1,13 +1,12 @@
-//! Of a trace that meets conditions a small one that still does.
-ghost use Rattle.std.specs.Prelude.{◌≡◌, ◌≤◌, ◌<◌, ◌+◌, ℕ, None, true, false, IfErr, IfOk, IfSome, OnOk, length};
-ghost use Rattle.hp_base.specs.Text.{sizes};
+//! Events that can go from a trace that meets conditions.
+ghost use Rattle.std.specs.Prelude.{◌≡◌, ◌≤◌, ◌<◌, ◌+◌, ℕ, true, false, IfOk, OnOk, length};
 ghost use Rattle.hp_hunt.specs.Conditions.{SomeRunMeets, SomeRunMisses};
-ghost use Rattle.hp_hunt.specs.Cutting.{IsSmall, IsSubsequence, cut};
+ghost use Rattle.hp_hunt.specs.Cutting.{IsCut, IsSubsequence, cut};
 
+use crate::belonging::{cut_calls, cut_tasks};
 use crate::condition::Condition;
 use crate::meeting::meets;
 use hp_base::{Config, Event};
-use hp_text::{ReplayFault, Trace};
 use std::alloc::{AllocError, Global};
 
 /// The events without so many of them from that place on.
@@ -27,6 +26,26 @@ fn without(
     Ok(left)
 }
 
+/// Takes what is left in the place of the events where a run of it meets the conditions. Tells whether one does.
+pub(crate) fn keep_if_met(
+    alloc: Global,
+    config: Config,
+    events: &mut Vec<Event>,
+    left: Vec<Event>,
+    conditions: &[Condition],
+) -> Result<bool, AllocError>
+    ensures taken { IfOk result (λ met. met ≡ true → (events.new.items ≡ left.items)
+        × SomeRunMeets config left.items conditions.now) }
+    ensures kept { IfOk result (λ met. met ≡ false → (events.new.items ≡ events.old.items)
+        × SomeRunMisses config left.items conditions.now) }
+{
+    let met = meets(alloc, config, left.as_slice(), conditions)?;
+    if met {
+        *events = left;
+    }
+    Ok(met)
+}
+
 /// Drops these events where a run of the others still meets the conditions. Tells whether it did.
 fn try_cut(
     alloc: Global,
@@ -43,11 +62,7 @@ fn try_cut(
         × SomeRunMisses config (cut events.old.items from len) conditions.now) }
 {
     let left = without(alloc, events.as_slice(), from, len)?;
-    let met = meets(alloc, config, left.as_slice(), conditions)?;
-    if met {
-        *events = left;
-    }
-    Ok(met)
+    keep_if_met(alloc, config, events, left, conditions)
 }
 
 /// Goes once over the events, from the last on, and drops each chunk of so many that can go.
@@ -116,41 +131,19 @@ fn cut_each(
     Ok(done)
 }
 
-/// Drops what can go, until no event can.
-fn cut_all(
+/// Drops what can go, until no event can: whole tasks, chunks, whole calls, and single events.
+pub(crate) fn cut_all(
     alloc: Global,
     config: Config,
     events: &mut Vec<Event>,
     conditions: &[Condition],
 ) -> Result<(), AllocError>
     requires { SomeRunMeets config events.old.items conditions.now }
-    ensures { OnOk result (IsSmall config events.old.items conditions.now events.new.items) }
+    ensures { OnOk result (IsCut config events.old.items conditions.now events.new.items) }
 {
+    cut_tasks(alloc, config, events, conditions)?;
     cut_halves(alloc, config, events, conditions)?;
+    cut_calls(alloc, config, events, conditions)?;
     while cut_each(alloc, config, events, conditions)? {}
     Ok(())
-}
-
-/// What is left of the trace where events are dropped as long as a run of the others still meets all conditions, or nothing
-/// where the trace's run doesn't.
-pub fn minimize(
-    alloc: Global,
-    trace: &Trace,
-    conditions: &[Condition],
-) -> Result<Option<Trace>, ReplayFault>
-    ensures small { IfOk result (λ result. IfSome result (λ small.
-        IsSmall trace.now.config trace.now.events.items conditions.now small.events.items)) }
-    ensures config { IfOk result (λ result. IfSome result (λ small. sizes small.config ≡ sizes trace.now.config)) }
-    ensures none { IfOk result (λ result. result ≡ None
-        → SomeRunMisses trace.now.config trace.now.events.items conditions.now) }
-    ensures memory { IfErr result (λ fault. fault ≡ ReplayFault.Memory) }
-{
-    let config = trace.config;
-    let events = trace.events.as_slice();
-    if !meets(alloc, config, events, conditions)? {
-        return Ok(None);
-    }
-    let mut events = events.to_vec(alloc)?;
-    cut_all(alloc, config, &mut events, conditions)?;
-    Ok(Some(Trace { config, events }))
 }

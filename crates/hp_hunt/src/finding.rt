@@ -5,12 +5,14 @@ ghost use Rattle.hp_hunt.specs.Hunting.{IsFound, NoneMeets, RunMeets, RunMisses}
 
 use crate::claims::{Part, search_part};
 use crate::condition::Condition;
+use crate::progress::{FIRST_PART, Progress, next_part};
 use crate::watching::{are_met, see_all, watch_all};
 use hp_base::{Answer, Event, Op};
 use hp_core::Outcome;
 use hp_explore::{Chances, Plan, ScheduledRun};
 use hp_text::{ReplayFault, Script, Trace};
 use std::alloc::{AllocError, Global};
+use std::sync::atomic::{AtomicU64, Ordering};
 use std::thread::Threads;
 
 /// Which runs of a script are searched.
@@ -62,26 +64,29 @@ pub(crate) fn explore_run(
     Ok(are_met(watches.as_slice(), turns.core()))
 }
 
-/// How many runs are handed to the workers at once.
-const PART: u32 = 16_384;
+/// How many runs are handed to the workers at once, at most.
+const MOST_PART: u32 = 16_384;
 
 /// The first run of a script, among so many, that meets all conditions, as a trace. Run k goes by the generator that is seeded
-/// with `hunt.seed + k`, wrapping. However many threads there are, it is the same. Nothing in it waits.
+/// with `hunt.seed + k`, wrapping. However many threads there are, it is the same. After some thousands of runs, fewer where they are
+/// long, it tells how far it is. Nothing in it waits.
 pub fn find(
     rt: &(impl Threads + Sync),
     alloc: Global,
     script: &Script,
     hunt: Hunt,
     conditions: &[Condition],
+    progress: &mut impl Progress,
 ) -> Result<Option<Found>, ReplayFault>
     ensures found { IfOk result (λ result. IfSome result (IsFound script.now hunt conditions.now)) }
     ensures none { IfOk result (λ result. result ≡ None → NoneMeets script.now hunt conditions.now hunt.limit) }
     ensures memory { IfErr result (λ fault. fault ≡ ReplayFault.Memory) }
 {
     let plan = &Plan::new(alloc, script, hunt.chances)?;
-    let mut first = 0;
+    let turns = AtomicU64::new(0);
+    let (mut first, mut size) = (0, FIRST_PART);
     while first < hunt.limit {
-        let count = (hunt.limit - first).min(PART);
+        let count = (hunt.limit - first).min(size);
         let part = Part {
             script,
             plan,
@@ -90,10 +95,12 @@ pub fn find(
             first,
             count,
         };
-        if let Some(found) = search_part(rt, alloc, part)? {
+        if let Some(found) = search_part(rt, alloc, part, &turns)? {
             return Ok(Some(found));
         }
+        size = next_part(size, MOST_PART, turns.swap(0, Ordering::SeqCst));
         first += count;
+        progress.explored(first, hunt.limit);
     }
     Ok(None)
 }

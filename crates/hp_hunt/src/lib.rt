@@ -5,14 +5,32 @@
 //! trace no event can go. It knows no words of a command line and no stream.
 #![tactic(auto)]
 
+mod belonging;
 mod claims;
 mod condition;
 mod cutting;
+mod facts;
 mod finding;
+mod gathering;
+mod lowering;
 mod meeting;
+mod minimizing;
+mod noting;
+mod numbers;
+mod phases;
+mod progress;
+mod summary;
+mod summary_text;
+mod tally;
 mod watching;
 
 pub use condition::{AnswerWord, Condition, PoolCount};
-pub use cutting::minimize;
+pub use facts::{Ended, RunFacts};
 pub use finding::{Found, Hunt, find};
+pub use gathering::Survey;
 pub use meeting::meets;
+pub use minimizing::minimize;
+pub use progress::Progress;
+pub use summary::{Summary, summarize};
+pub use summary_text::write_summary;
+pub use tally::Ending;

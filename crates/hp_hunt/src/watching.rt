@@ -59,7 +59,7 @@ fn has_task(core: &Core, task: Task) -> bool
 }
 
 /// Whether the next step of the task's call is blocked by somebody.
-fn is_held_up(core: &Core, task: Task) -> bool
+pub(crate) fn is_held_up(core: &Core, task: Task) -> bool
     ensures { IsTrue result ↔ ((holder : ℕ) × WaitsFor core.now task (Some holder)) }
 {
     core.is_reached();

@@ -20,6 +20,18 @@ pub fn write_fault<R: Recalls>(
     }
 }
 
+/// Writes why the system refused the last read or the last write, where it did.
+pub fn write_error(
+    reading: Option<io::Error>,
+    writing: Option<io::Error>,
+    faults: &mut impl Write,
+) -> io::Result<()> {
+    match reading.or(writing) {
+        Some(error) => writeln!(faults, "hugepool: {error}"),
+        None => Ok(()),
+    }
+}
+
 // The number of the line that is not allowed, if the fault is one of a line.
 fn bad_line(fault: ReplayFault) -> Option<u64> {
     match fault {

@@ -6,8 +6,10 @@
 
 mod faults;
 mod flushing;
+mod noted;
 mod replaying;
 
-pub use faults::write_fault;
+pub use faults::{write_error, write_fault};
 pub use flushing::{flush_unless, flushed_answer};
+pub use noted::Noted;
 pub use replaying::run_replay;

@@ -28,16 +28,16 @@ lines_more n (r ∷ rs) race =
     ∙ sym (append_assoc (run_line n r) (lines_text (n + 1) rs) (run_line (n + length (r ∷ rs)) race))
 
 -- the lines of the first races are written
-pub record SoFar (script : Script) (cut : Option ℕ) (run : ℕ) (closed : Bool) (before now : Option (List ℕ)) : Type 0 where
+pub record SoFar (mortal : Bool) (script : Script) (cut : Option ℕ) (run : ℕ) (closed : Bool) (before now : Option (List ℕ)) : Type 0 where
   pub races : List Race
   pub count : length races ≡ run
-  pub each : All (IsToldBy script cut) races
+  pub each : All (IsToldBy mortal script cut) races
   pub wrote : Appends before now (lines_text 0 races)
   pub ends : closed ≡ list_all is_closed races
 
-pub nothing_yet : (script : Script) (cut : Option ℕ) (o : Option (List ℕ)) → SoFar script cut 0 true o o
-nothing_yet script cut o =
-    record { races = []; count = refl; each = All-nil (IsToldBy script cut); wrote = Appends-nil o; ends = refl }
+pub nothing_yet : (mortal : Bool) (script : Script) (cut : Option ℕ) (o : Option (List ℕ)) → SoFar mortal script cut 0 true o o
+nothing_yet mortal script cut o =
+    record { races = []; count = refl; each = All-nil (IsToldBy mortal script cut); wrote = Appends-nil o; ends = refl }
 
 -- the text of one more
 text_more : (run : ℕ) (races : List Race) (race : Race) → length races ≡ run
@@ -47,17 +47,18 @@ text_more run races race count =
     lines_more 0 races race ∙ ap (λ (k : ℕ). lines_text 0 races ++ run_line k race) here
 
 -- one line more is written
-pub line_written : (script : Script) (cut : Option ℕ) (run : ℕ) (closed is now_closed : Bool)
+pub line_written : (mortal : Bool) (script : Script) (cut : Option ℕ) (run : ℕ) (closed is now_closed : Bool)
     (before mid now : Option (List ℕ)) (race : Race)
-    → SoFar script cut run closed before mid → IsToldBy script cut race → Appends mid now (run_line run race) → is ≡ is_closed race
-    → now_closed ≡ (closed && is) → SoFar script cut (run + 1) now_closed before now
-line_written script cut run closed is now_closed before mid now race s told wrote ended both =
+    → SoFar mortal script cut run closed before mid → IsToldBy mortal script cut race → Appends mid now (run_line run race)
+    → is ≡ is_closed race
+    → now_closed ≡ (closed && is) → SoFar mortal script cut (run + 1) now_closed before now
+line_written mortal script cut run closed is now_closed before mid now race s told wrote ended both =
     let more = length-append s.races (race ∷ []) in
     let one : (is_closed race && true) ≡ is_closed race = and_true (is_closed race) in
     record {
       races = s.races ++ race ∷ [];
       count = omega (arith, more, s.count);
-      each = All-push (IsToldBy script cut) s.races race s.each told;
+      each = All-push (IsToldBy mortal script cut) s.races race s.each told;
       wrote =
           subst (λ (x : List ℕ). Appends before now x) (sym (text_more run s.races race s.count))
           (Appends-trans before mid now (lines_text 0 s.races) (run_line run race) s.wrote wrote);
@@ -71,24 +72,25 @@ line_written script cut run closed is now_closed before mid now race s told wrot
     and_true false = refl
 
 -- or a front of it
-pub line_stopped : (script : Script) (cut : Option ℕ) (run times : ℕ) (closed : Bool) (before mid now : Option (List ℕ)) (race : Race)
-    → SoFar script cut run closed before mid → run < times → IsToldBy script cut race → Wrote mid now (run_line run race)
-    → WroteSomeRaces script cut times before now
-line_stopped script cut run times closed before mid now race s few told wrote =
+pub line_stopped : (mortal : Bool) (script : Script) (cut : Option ℕ) (run times : ℕ) (closed : Bool) (before mid now : Option (List ℕ))
+    (race : Race)
+    → SoFar mortal script cut run closed before mid → run < times → IsToldBy mortal script cut race → Wrote mid now (run_line run race)
+    → WroteSomeRaces mortal script cut times before now
+line_stopped mortal script cut run times closed before mid now race s few told wrote =
     let more = length-append s.races (race ∷ []) in
     record {
       races = s.races ++ race ∷ [];
       few = omega (arith, more, s.count, few);
-      each = All-push (IsToldBy script cut) s.races race s.each told;
+      each = All-push (IsToldBy mortal script cut) s.races race s.each told;
       wrote =
           subst (λ (x : List ℕ). Wrote before now x) (sym (text_more run s.races race s.count))
           (Wrote-behind before mid now (lines_text 0 s.races) (run_line run race) s.wrote wrote);
     }
 
 -- or nothing of it
-pub stopped_before : (script : Script) (cut : Option ℕ) (run times : ℕ) (closed : Bool) (before now : Option (List ℕ))
-    → SoFar script cut run closed before now → run ≤ times → WroteSomeRaces script cut times before now
-stopped_before script cut run times closed before now s few =
+pub stopped_before : (mortal : Bool) (script : Script) (cut : Option ℕ) (run times : ℕ) (closed : Bool) (before now : Option (List ℕ))
+    → SoFar mortal script cut run closed before now → run ≤ times → WroteSomeRaces mortal script cut times before now
+stopped_before mortal script cut run times closed before now s few =
     record {
       races = s.races;
       few = omega (arith, s.count, few);
@@ -96,8 +98,8 @@ stopped_before script cut run times closed before now s few =
       wrote = record { front = lines_text 0 s.races; back = []; parts = sym (append-nil (lines_text 0 s.races)); appends = s.wrote };
     }
 
-pub all_raced : (script : Script) (cut : Option ℕ) (run times : ℕ) (closed : Bool) (before now : Option (List ℕ))
-    → SoFar script cut run closed before now
-    → run ≡ times → WroteRaces script cut times closed before now
-all_raced script cut run times closed before now s same =
+pub all_raced : (mortal : Bool) (script : Script) (cut : Option ℕ) (run times : ℕ) (closed : Bool) (before now : Option (List ℕ))
+    → SoFar mortal script cut run closed before now
+    → run ≡ times → WroteRaces mortal script cut times closed before now
+all_raced mortal script cut run times closed before now s same =
     record { races = s.races; count = s.count ∙ same; each = s.each; wrote = s.wrote; ends = s.ends }

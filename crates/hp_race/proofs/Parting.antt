@@ -81,13 +81,14 @@ same_items now items len full same new =
     subst (λ (l : List SeatState). All IsNew l) (sym whole) new
 
 -- seats that made their calls, and what is cut off then, are a part
-pub part_made : (script : Script) (calls : CallRange) (position now : ℕ) (start new : CoreState) (seats : List SeatState) (made : Bool)
-    → made ≡ true → MatchBool made (All (HasMadeIn script calls) seats) (SomeStrayedIn script calls seats)
+pub part_made : (mortal : Bool) (script : Script) (calls : CallRange) (position now : ℕ) (start new : CoreState) (seats : List SeatState)
+    (made : Bool)
+    → made ≡ true → MatchBool made (All (HasMadeIn mortal script calls) seats) (SomeStrayedIn mortal script calls seats)
     → AllSeated script.config.tasks seats → length seats ≡ script.config.tasks
     → ((es : List Entry) × Interleaves position es (lists_of seats) × Follows start es new × (now ≡ position + length es))
-    → (part : Part) × IsPart script calls position start part × (now ≡ position + length part.entries) × (new ≡ part.core)
-part_made script calls position now start new seats false is had seated count cut = absurd (false≢true is)
-part_made script calls position now start new seats true is had seated count cut = (
+    → (part : Part) × IsPart mortal script calls position start part × (now ≡ position + length part.entries) × (new ≡ part.core)
+part_made mortal script calls position now start new seats false is had seated count cut = absurd (false≢true is)
+part_made mortal script calls position now start new seats true is had seated count cut = (
   record { seats = seats; entries = cut.0; core = new },
   record { seated = seated; count = count; made = had; order = cut.1; run = cut.2 },
   cut.3,
@@ -95,40 +96,42 @@ part_made script calls position now start new seats true is had seated count cut
 )
 
 -- whatever parts come behind one more come behind those before it
-pub parts_on : (script : Script) (most from next position now begun : ℕ) (start core new : CoreState)
-    → ((parts : List Part) (entries : ℕ) (end : CoreState) → AreParts script most from position core parts entries end
-    → (all : List Part) × AreParts script most 0 begun start all entries end)
-    → ((part : Part) × IsPart script (call_range from most) position core part × (now ≡ position + length part.entries) × (new ≡ part.core))
+pub parts_on : (mortal : Bool) (script : Script) (most from next position now begun : ℕ) (start core new : CoreState)
+    → ((parts : List Part) (entries : ℕ) (end : CoreState) → AreParts mortal script most from position core parts entries end
+    → (all : List Part) × AreParts mortal script most 0 begun start all entries end)
+    → ((part : Part) × IsPart mortal script (call_range from most) position core part × (now ≡ position + length part.entries)
+    × (new ≡ part.core))
     → next ≡ from + most
-    → (parts : List Part) (entries : ℕ) (end : CoreState) → AreParts script most next now new parts entries end
-    → (all : List Part) × AreParts script most 0 begun start all entries end
-parts_on script most from next position now begun start core new before made is parts entries end rest =
+    → (parts : List Part) (entries : ℕ) (end : CoreState) → AreParts mortal script most next now new parts entries end
+    → (all : List Part) × AreParts mortal script most 0 begun start all entries end
+parts_on mortal script most from next position now begun start core new before made is parts entries end rest =
     let part : Part = made.0 in
     before (part ∷ parts) entries end (
       made.1,
-      subst (λ (c : CoreState). AreParts script most (from + most) (position + length part.entries) c parts entries end) made.3
-          (subst (λ (n : ℕ). AreParts script most (from + most) n new parts entries end) made.2
-          (subst (λ (n : ℕ). AreParts script most n now new parts entries end) is rest)),
+      subst (λ (c : CoreState). AreParts mortal script most (from + most) (position + length part.entries) c parts entries end) made.3
+          (subst (λ (n : ℕ). AreParts mortal script most (from + most) n new parts entries end) made.2
+          (subst (λ (n : ℕ). AreParts mortal script most n now new parts entries end) is rest)),
     )
 
 -- and where none comes, those before are all
-pub parts_end : (script : Script) (most from longest position begun : ℕ) (start core : CoreState)
-    → ((parts : List Part) (entries : ℕ) (end : CoreState) → AreParts script most from position core parts entries end
-    → (all : List Part) × AreParts script most 0 begun start all entries end)
+pub parts_end : (mortal : Bool) (script : Script) (most from longest position begun : ℕ) (start core : CoreState)
+    → ((parts : List Part) (entries : ℕ) (end : CoreState) → AreParts mortal script most from position core parts entries end
+    → (all : List Part) × AreParts mortal script most 0 begun start all entries end)
     → IsToTheEnd script longest → longest ≤ from
-    → (all : List Part) × AreParts script most 0 begun start all position core
-parts_end script most from longest position begun start core before short over =
+    → (all : List Part) × AreParts mortal script most 0 begun start all position core
+parts_end mortal script most from longest position begun start core before short over =
     before [] position core ((λ task least last. omega (arith, over, short task least last)), refl, refl)
 
 -- what is told of a pool that was closed behind the last part
-told_parts_as : (script : Script) (most : ℕ) (made : Bool) (opened core pool : CoreState) (begun entries first told : ℕ)
+told_parts_as : (mortal : Bool) (script : Script) (most : ℕ) (made : Bool) (opened core pool : CoreState) (begun entries first told : ℕ)
     (journal : List Entry)
     (seats : List SeatState) (race : Race) (v : Verdict)
     → IsOpening script.config opened → begun ≡ 0
-    → (made ≡ true → (parts : List Part) × AreParts script most 0 begun opened parts entries core)
+    → (made ≡ true → (parts : List Part) × AreParts mortal script most 0 begun opened parts entries core)
     → ClosesPoolOf script.config seats pool first journal → told ≡ first + length journal → Counts race told pool
-    → IsVerdictOnParts made (IsAgain entries core first journal pool) v → IsToldInPartsAs script most v race
-told_parts_as script most made opened core pool begun entries first told journal seats race Closed opening new parts closes all counts is =
+    → IsVerdictOnParts made (IsAgain entries core first journal pool) v → IsToldInPartsAs mortal script most v race
+told_parts_as mortal script most made opened core pool begun entries first told journal seats race Closed opening new parts closes all
+    counts is =
     let are = parts is.0 in
     let none : length journal ≡ 0 = ap length is.1.1 in
     let many : entries ≡ race.entries = omega (arith, counts.0, all, none, is.1.0) in
@@ -138,8 +141,8 @@ told_parts_as script most made opened core pool begun entries first told journal
       parts = are.0;
       core = core;
       are =
-          subst (λ (n : ℕ). AreParts script most 0 0 opened are.0 n core) many
-          (subst (λ (n : ℕ). AreParts script most 0 n opened are.0 entries core) new are.1);
+          subst (λ (n : ℕ). AreParts mortal script most 0 0 opened are.0 n core) many
+          (subst (λ (n : ℕ). AreParts mortal script most 0 n opened are.0 entries core) new are.1);
       counts = (
         refl,
         counts.1 ∙ ap (λ (t : Tally). t.free) is.1.2,
@@ -152,34 +155,36 @@ told_parts_as script most made opened core pool begun entries first told journal
           (subst (λ (es : List Entry). ClosesPoolOf script.config seats pool first es) is.1.1 closes);
       same = is.1.2;
     }
-told_parts_as script most made opened core pool begun entries first told journal seats race (Disagree position) opening new parts closes
-    all counts is =
+told_parts_as mortal script most made opened core pool begun entries first told journal seats race (Disagree position) opening new parts
+    closes all counts is =
     absurd is
-told_parts_as script most made opened core pool begun entries first told journal seats race Astray opening new parts closes all counts is =
+told_parts_as mortal script most made opened core pool begun entries first told journal seats race Astray opening new parts closes all
+    counts is =
     record { core = pool; came = pool_came script.config seats pool first journal closes; free = counts.1; resv = counts.2 }
 
-pub told_parts : (script : Script) (most : ℕ) (made : Bool) (opened core pool : CoreState) (begun entries first told : ℕ)
+pub told_parts : (mortal : Bool) (script : Script) (most : ℕ) (made : Bool) (opened core pool : CoreState) (begun entries first told : ℕ)
     (journal : List Entry)
     (seats : List SeatState) (race : Race)
     → IsOpening script.config opened → begun ≡ 0
-    → (made ≡ true → (parts : List Part) × AreParts script most 0 begun opened parts entries core)
+    → (made ≡ true → (parts : List Part) × AreParts mortal script most 0 begun opened parts entries core)
     → (config : Config) → config ≡ script.config → ClosesPoolOf config seats pool first journal
     → told ≡ first + length journal → Counts race told pool
-    → IsVerdictOnParts made (IsAgain entries core first journal pool) race.verdict → IsToldInParts script most race
-told_parts script most made opened core pool begun entries first told journal seats race opening new parts config same closes
+    → IsVerdictOnParts made (IsAgain entries core first journal pool) race.verdict → IsToldInParts mortal script most race
+told_parts mortal script most made opened core pool begun entries first told journal seats race opening new parts config same closes
     all counts is =
-    told_parts_as script most made opened core pool begun entries first told journal seats race race.verdict opening new parts
+    told_parts_as mortal script most made opened core pool begun entries first told journal seats race race.verdict opening new parts
     (subst (λ (c : Config). ClosesPoolOf c seats pool first journal) same closes) all counts is
 
 -- what is told of one that wasn't
-refused_as : (script : Script) (most : ℕ) (seats : List SeatState) (core : CoreState) (tally : Tally) (race : Race) (why : CloseFault)
+refused_as : (mortal : Bool) (script : Script) (most : ℕ) (seats : List SeatState) (core : CoreState) (tally : Tally) (race : Race)
+    (why : CloseFault)
     → IsCameTo core → tally ≡ tally_of core → RefusesClose script.config seats why → IsToldOfRefused why tally race
-    → IsToldInParts script most race
-refused_as script most seats core tally race (fault.SeatMissing task) came same refused told =
-    subst (λ (r : Race). IsToldInParts script most r) (sym told)
+    → IsToldInParts mortal script most race
+refused_as mortal script most seats core tally race (fault.SeatMissing task) came same refused told =
+    subst (λ (r : Race). IsToldInParts mortal script most r) (sym told)
     (record { core = core; came = came; free = ap (λ (t : Tally). t.free) same; resv = ap (λ (t : Tally). t.resv) same })
-refused_as script most seats core tally race (fault.Disagree position) came same refused told =
-    subst (λ (r : Race). IsToldInParts script most r) (sym told)
+refused_as mortal script most seats core tally race (fault.Disagree position) came same refused told =
+    subst (λ (r : Race). IsToldInParts mortal script most r) (sym told)
     (record {
       seats = seats;
       seated = refused.0;
@@ -190,13 +195,14 @@ refused_as script most seats core tally race (fault.Disagree position) came same
       came = came;
       counts = (refl, ap (λ (t : Tally). t.free) same, ap (λ (t : Tally). t.resv) same);
     })
-refused_as script most seats core tally race fault.OtherSizes came same refused told =
-    subst (λ (r : Race). IsToldInParts script most r) (sym told)
+refused_as mortal script most seats core tally race fault.OtherSizes came same refused told =
+    subst (λ (r : Race). IsToldInParts mortal script most r) (sym told)
     (record { core = core; came = came; free = ap (λ (t : Tally). t.free) same; resv = ap (λ (t : Tally). t.resv) same })
-refused_as script most seats core tally race fault.Memory came same refused told = absurd told
+refused_as mortal script most seats core tally race fault.Memory came same refused told = absurd told
 
-pub refused_parts : (script : Script) (most : ℕ) (config : Config) (seats : List SeatState) (core : CoreState) (tally : Tally)
+pub refused_parts : (mortal : Bool) (script : Script) (most : ℕ) (config : Config) (seats : List SeatState) (core : CoreState)
+    (tally : Tally)
     (race : Race) (why : CloseFault) → IsCameTo core → tally ≡ tally_of core → config ≡ script.config → RefusesClose config seats why
-    → IsToldOfRefused why tally race → IsToldInParts script most race
-refused_parts script most config seats core tally race why came is same refused told =
-    refused_as script most seats core tally race why came is (subst (λ (c : Config). RefusesClose c seats why) same refused) told
+    → IsToldOfRefused why tally race → IsToldInParts mortal script most race
+refused_parts mortal script most config seats core tally race why came is same refused told =
+    refused_as mortal script most seats core tally race why came is (subst (λ (c : Config). RefusesClose c seats why) same refused) told

@@ -39,17 +39,18 @@ pub pool_came : (config : Config) (seats : List SeatState) (core : CoreState) (f
     → ClosesPoolOf config seats core first journal → IsCameTo core
 pool_came config seats core first journal h = closed_came seats core first journal (closes_with config seats core first journal h)
 
-all_made : (script : Script) (made : Bool) (seats : List SeatState) → made ≡ true
-    → MatchBool made (All (HasMade script) seats) (SomeStrayed script seats) → All (HasMade script) seats
-all_made script true seats is calls = calls
-all_made script false seats is calls = absurd (false≢true is)
+all_made : (mortal : Bool) (script : Script) (made : Bool) (seats : List SeatState) → made ≡ true
+    → MatchBool made (All (HasMade mortal script) seats) (SomeStrayed mortal script seats) → All (HasMade mortal script) seats
+all_made mortal script true seats is calls = calls
+all_made mortal script false seats is calls = absurd (false≢true is)
 
 -- a pool that was closed so had a race of the script
-race_of : (script : Script) (made : Bool) (seats : List SeatState) (core : CoreState) (first : ℕ) (journal : List Entry)
+race_of : (mortal : Bool) (script : Script) (made : Bool) (seats : List SeatState) (core : CoreState) (first : ℕ) (journal : List Entry)
     → IsVerdictOn made first Closed → AllSeated script.config.tasks seats → length seats ≡ script.config.tasks
-    → ClosesPoolOf script.config seats core first journal → MatchBool made (All (HasMade script) seats) (SomeStrayed script seats)
-    → IsRace script journal core
-race_of script made seats core first journal is seated count h calls =
+    → ClosesPoolOf script.config seats core first journal → MatchBool made (All (HasMade mortal script) seats)
+    (SomeStrayed mortal script seats)
+    → IsRace mortal script journal core
+race_of mortal script made seats core first journal is seated count h calls =
     let start = h.3 in
     let run : Follows start.0 (h.0 ++ journal) core = follows_on start.0 h.1 core h.0 journal start.2 h.5 in
     let none : h.0 ≡ [] = none_earlier h.0 (h.2 ∙ is.1) in
@@ -60,59 +61,62 @@ race_of script made seats core first journal is seated count h calls =
       seats = seats;
       seated = seated;
       count = count;
-      made = all_made script made seats is.0 calls;
+      made = all_made mortal script made seats is.0 calls;
       order = subst (λ (p : ℕ). Interleaves p journal (lists_of seats)) is.1 h.4;
     }
 
 -- what is told of a pool that was closed
-told_closed_as : (script : Script) (made : Bool) (seats : List SeatState) (core : CoreState) (first : ℕ) (journal : List Entry)
+told_closed_as : (mortal : Bool) (script : Script) (made : Bool) (seats : List SeatState) (core : CoreState) (first : ℕ)
+    (journal : List Entry)
     (race : Race) (v : Verdict) → IsVerdictOn made first v → Counts race (first + length journal) core
     → AllSeated script.config.tasks seats → length seats ≡ script.config.tasks → ClosesPoolOf script.config seats core first journal
-    → MatchBool made (All (HasMade script) seats) (SomeStrayed script seats) → IsToldAs script v race
-told_closed_as script made seats core first journal race Closed is counts seated count h calls =
+    → MatchBool made (All (HasMade mortal script) seats) (SomeStrayed mortal script seats) → IsToldAs mortal script v race
+told_closed_as mortal script made seats core first journal race Closed is counts seated count h calls =
     let all : first + length journal ≡ length journal = omega (arith, is.1) in
     record {
       journal = journal;
       core = core;
-      is = race_of script made seats core first journal is seated count h calls;
+      is = race_of mortal script made seats core first journal is seated count h calls;
       counts = (counts.0 ∙ all, counts.1, counts.2);
     }
-told_closed_as script made seats core first journal race (Disagree position) is counts seated count h calls = absurd is
-told_closed_as script made seats core first journal race Astray is counts seated count h calls =
+told_closed_as mortal script made seats core first journal race (Disagree position) is counts seated count h calls = absurd is
+told_closed_as mortal script made seats core first journal race Astray is counts seated count h calls =
     record {
       seats = seats;
       first = first;
       core = core;
       came = pool_came script.config seats core first journal h;
-      why = why_of script made seats first core is calls;
+      why = why_of mortal script made seats first core is calls;
       free = counts.1;
       resv = counts.2;
     }
   where
-    why_of : (script : Script) (made : Bool) (seats : List SeatState) (first : ℕ) (core : CoreState)
-        → ((made ≡ false) ⊎ (¬ (first ≡ 0))) → MatchBool made (All (HasMade script) seats) (SomeStrayed script seats)
-        → SomeStrayed script seats
+    why_of : (mortal : Bool) (script : Script) (made : Bool) (seats : List SeatState) (first : ℕ) (core : CoreState)
+        → ((made ≡ false) ⊎ (¬ (first ≡ 0))) → MatchBool made (All (HasMade mortal script) seats) (SomeStrayed mortal script seats)
+        → SomeStrayed mortal script seats
         ⊎ ((¬ IsOfScript script first core) ⊎ (((task : ℕ) × LeastMissing script.config.tasks seats task) ⊎ HasOtherSizes script))
-    why_of script true seats first core (inl is) calls = absurd (true≢false is)
-    why_of script false seats first core (inl is) calls = inl calls
-    why_of script made seats first core (inr is) calls = inr (inl (λ whole. is whole.0))
+    why_of mortal script true seats first core (inl is) calls = absurd (true≢false is)
+    why_of mortal script false seats first core (inl is) calls = inl calls
+    why_of mortal script made seats first core (inr is) calls = inr (inl (λ whole. is whole.0))
 
-pub told_closed : (script : Script) (made : Bool) (config : Config) (seats : List SeatState) (core : CoreState) (first entries : ℕ)
+pub told_closed : (mortal : Bool) (script : Script) (made : Bool) (config : Config) (seats : List SeatState) (core : CoreState)
+    (first entries : ℕ)
     (journal : List Entry) (race : Race) → IsVerdictOn made first race.verdict → Counts race entries core
     → entries ≡ first + length journal → AllSeated config.tasks seats → config ≡ script.config → length seats ≡ script.config.tasks
     → ClosesPoolOf config seats core first journal
-    → MatchBool made (All (HasMade script) seats) (SomeStrayed script seats) → IsTold script race
-told_closed script made config seats core first entries journal race is counts all seated same count h calls =
-    told_closed_as script made seats core first journal race race.verdict is (counts.0 ∙ all, counts.1, counts.2)
+    → MatchBool made (All (HasMade mortal script) seats) (SomeStrayed mortal script seats) → IsTold mortal script race
+told_closed mortal script made config seats core first entries journal race is counts all seated same count h calls =
+    told_closed_as mortal script made seats core first journal race race.verdict is (counts.0 ∙ all, counts.1, counts.2)
     (subst (λ (c : Config). AllSeated c.tasks seats) same seated) count
     (subst (λ (c : Config). ClosesPoolOf c seats core first journal) same h) calls
 
 -- what is told of one that wasn't
-told_refused_as : (script : Script) (seats : List SeatState) (core : CoreState) (tally : Tally) (race : Race) (why : CloseFault)
+told_refused_as : (mortal : Bool) (script : Script) (seats : List SeatState) (core : CoreState) (tally : Tally) (race : Race)
+    (why : CloseFault)
     → IsCameTo core → tally ≡ tally_of core → RefusesClose script.config seats why → IsToldOfRefused why tally race
-    → IsTold script race
-told_refused_as script seats core tally race (fault.SeatMissing task) came same refused told =
-    subst (λ (r : Race). IsTold script r) (sym told)
+    → IsTold mortal script race
+told_refused_as mortal script seats core tally race (fault.SeatMissing task) came same refused told =
+    subst (λ (r : Race). IsTold mortal script r) (sym told)
     (record {
       seats = seats;
       first = 0;
@@ -122,8 +126,8 @@ told_refused_as script seats core tally race (fault.SeatMissing task) came same 
       free = ap (λ (t : Tally). t.free) same;
       resv = ap (λ (t : Tally). t.resv) same;
     })
-told_refused_as script seats core tally race (fault.Disagree position) came same refused told =
-    subst (λ (r : Race). IsTold script r) (sym told)
+told_refused_as mortal script seats core tally race (fault.Disagree position) came same refused told =
+    subst (λ (r : Race). IsTold mortal script r) (sym told)
     (record {
       seats = seats;
       seated = refused.0;
@@ -134,8 +138,8 @@ told_refused_as script seats core tally race (fault.Disagree position) came same
       came = came;
       counts = (refl, ap (λ (t : Tally). t.free) same, ap (λ (t : Tally). t.resv) same);
     })
-told_refused_as script seats core tally race fault.OtherSizes came same refused told =
-    subst (λ (r : Race). IsTold script r) (sym told)
+told_refused_as mortal script seats core tally race fault.OtherSizes came same refused told =
+    subst (λ (r : Race). IsTold mortal script r) (sym told)
     (record {
       seats = seats;
       first = 0;
@@ -145,56 +149,57 @@ told_refused_as script seats core tally race fault.OtherSizes came same refused 
       free = ap (λ (t : Tally). t.free) same;
       resv = ap (λ (t : Tally). t.resv) same;
     })
-told_refused_as script seats core tally race fault.Memory came same refused told = absurd told
+told_refused_as mortal script seats core tally race fault.Memory came same refused told = absurd told
 
-pub told_refused : (script : Script) (config : Config) (seats : List SeatState) (core : CoreState) (tally : Tally) (race : Race)
+pub told_refused : (mortal : Bool) (script : Script) (config : Config) (seats : List SeatState) (core : CoreState) (tally : Tally)
+    (race : Race)
     (why : CloseFault) → IsCameTo core → tally ≡ tally_of core → config ≡ script.config → RefusesClose config seats why
-    → IsToldOfRefused why tally race → IsTold script race
-told_refused script config seats core tally race why came is same refused told =
-    told_refused_as script seats core tally race why came is (subst (λ (c : Config). RefusesClose c seats why) same refused) told
+    → IsToldOfRefused why tally race → IsTold mortal script race
+told_refused mortal script config seats core tally race why came is same refused told =
+    told_refused_as mortal script seats core tally race why came is (subst (λ (c : Config). RefusesClose c seats why) same refused) told
 
 -- what is kept of a pool that was closed
-pub kept_closed : (script : Script) (made : Bool) (config : Config) (seats : List SeatState) (core : CoreState) (first : ℕ)
+pub kept_closed : (mortal : Bool) (script : Script) (made : Bool) (config : Config) (seats : List SeatState) (core : CoreState) (first : ℕ)
     (journal : List Entry) → AllSeated config.tasks seats → config ≡ script.config → length seats ≡ script.config.tasks
     → ClosesPoolOf config seats core first journal
-    → MatchBool made (All (HasMade script) seats) (SomeStrayed script seats) → (kept : Option Trace)
-    → IsKeptOf script made first journal kept → IsKept script kept
-kept_closed script made config seats core first journal all same count h calls None is =
-    record { seats = seats; why = why_not script made seats first core (pool_came config seats core first journal h) is calls }
+    → MatchBool made (All (HasMade mortal script) seats) (SomeStrayed mortal script seats) → (kept : Option Trace)
+    → IsKeptOf script made first journal kept → IsKept mortal script kept
+kept_closed mortal script made config seats core first journal all same count h calls None is =
+    record { seats = seats; why = why_not mortal script made seats first core (pool_came config seats core first journal h) is calls }
   where
-    why_not : (script : Script) (made : Bool) (seats : List SeatState) (first : ℕ) (core : CoreState) → IsCameTo core
-        → ((made ≡ false) ⊎ (¬ (first ≡ 0))) → MatchBool made (All (HasMade script) seats) (SomeStrayed script seats)
-        → SomeStrayed script seats
+    why_not : (mortal : Bool) (script : Script) (made : Bool) (seats : List SeatState) (first : ℕ) (core : CoreState) → IsCameTo core
+        → ((made ≡ false) ⊎ (¬ (first ≡ 0))) → MatchBool made (All (HasMade mortal script) seats) (SomeStrayed mortal script seats)
+        → SomeStrayed mortal script seats
         ⊎ (HasClosedAnother script ⊎ (((task : ℕ) × LeastMissing script.config.tasks seats task) ⊎ HaveDisagreed seats))
-    why_not script true seats first core came (inl is) calls = absurd (true≢false is)
-    why_not script false seats first core came (inl is) calls = inl calls
-    why_not script made seats first core came (inr is) calls = inr (inl (first, core, came, λ whole. is whole.0))
-kept_closed script made config seats core first journal all same count h calls (Some trace) is =
+    why_not mortal script true seats first core came (inl is) calls = absurd (true≢false is)
+    why_not mortal script false seats first core came (inl is) calls = inl calls
+    why_not mortal script made seats first core came (inr is) calls = inr (inl (first, core, came, λ whole. is whole.0))
+kept_closed mortal script made config seats core first journal all same count h calls (Some trace) is =
     record {
       journal = journal;
       core = core;
-      is = race_of script made seats core first journal is.0 (subst (λ (c : Config). AllSeated c.tasks seats) same all) count
+      is = race_of mortal script made seats core first journal is.0 (subst (λ (c : Config). AllSeated c.tasks seats) same all) count
           (subst (λ (c : Config). ClosesPoolOf c seats core first journal) same h) calls;
       config = is.1;
       order = is.2;
     }
 
 -- a pool that wasn't closed had a race that wasn't
-unclosed_as : (script : Script) (seats : List SeatState) (why : CloseFault) → (why ≢ fault.Memory)
-    → RefusesClose script.config seats why → IsUnclosed script
-unclosed_as script seats (fault.SeatMissing task) not refused = record { seats = seats; why = inr (inr (inl (task, refused))) }
-unclosed_as script seats (fault.Disagree position) not refused =
+unclosed_as : (mortal : Bool) (script : Script) (seats : List SeatState) (why : CloseFault) → (why ≢ fault.Memory)
+    → RefusesClose script.config seats why → IsUnclosed mortal script
+unclosed_as mortal script seats (fault.SeatMissing task) not refused = record { seats = seats; why = inr (inr (inl (task, refused))) }
+unclosed_as mortal script seats (fault.Disagree position) not refused =
     record { seats = seats; why = inr (inr (inr (refused.1.0, refused.1.1, position, refused.1.2))) }
-unclosed_as script seats fault.OtherSizes not refused =
+unclosed_as mortal script seats fault.OtherSizes not refused =
     record { seats = seats; why = inr (inl (0, refused.1.0, refused.1.1, λ is. refused.1.2 is.1)) }
-unclosed_as script seats fault.Memory not refused = absurd (not refl)
+unclosed_as mortal script seats fault.Memory not refused = absurd (not refl)
 
 -- so nothing is kept of it
-pub kept_none : (script : Script) (config : Config) (seats : List SeatState) (why : CloseFault) (kept : Option Trace)
-    → config ≡ script.config → RefusesClose config seats why → kept ≡ None → (why ≢ fault.Memory) → IsKept script kept
-kept_none script config seats why kept same refused none not =
-    subst (λ (k : Option Trace). IsKept script k) (sym none)
-    (unclosed_as script seats why not (subst (λ (c : Config). RefusesClose c seats why) same refused))
+pub kept_none : (mortal : Bool) (script : Script) (config : Config) (seats : List SeatState) (why : CloseFault) (kept : Option Trace)
+    → config ≡ script.config → RefusesClose config seats why → kept ≡ None → (why ≢ fault.Memory) → IsKept mortal script kept
+kept_none mortal script config seats why kept same refused none not =
+    subst (λ (k : Option Trace). IsKept mortal script k) (sym none)
+    (unclosed_as mortal script seats why not (subst (λ (c : Config). RefusesClose c seats why) same refused))
 
 pub none_few : (kept : Option Trace) → kept ≡ None → IfSome kept (λ trace. length trace.events.items ≤ MOST_EVENTS)
 none_few kept none = subst (λ (k : Option Trace). IfSome k (λ trace. length trace.events.items ≤ MOST_EVENTS)) (sym none) tt

@@ -1,16 +1,24 @@
 -- What a task's calls make of its list, one call after the other.
-use Rattle.std.specs.Prelude.{◌≡◌, ◌==◌, ◌&&◌, ◌||◌, ◌⊎◌, ℕ, Bool, true, false, not, List, [], ◌∷◌, length}
+use Rattle.std.specs.Prelude.{◌≡◌, ◌==◌, ◌&&◌, ◌||◌, ◌⊎◌, ◌≤◌, ◌++◌, ℕ, Bool, true, false, not, nat_lt, List, [], ◌∷◌, length}
 use Rattle.hp_base.specs.declared.answer.Answer.{Answer}
+use Rattle.hp_base.specs.declared.event.Event.TheVariants.{Kill}
 use Rattle.hp_base.specs.declared.event.Op.{Op}
 use Rattle.hp_machine.specs.Events.{is_exit}
+use Rattle.hp_machine.specs.declared.outcome.Outcome.TheVariants.{Marked}
 use Rattle.hp_machine.specs.declared.outcome.Refusal.{Refusal}
 use Rattle.hp_machine.specs.declared.outcome.Refusal.TheVariants.{NotAlive, InCall, Idle, BadSize}
 use Rattle.hp_shared.specs.declared.entry.Entry.{Entry}
 use Rattle.hp_shared.specs.declared.fault.Reply.{Reply}
 use Rattle.hp_shared.specs.declared.fault.Reply.TheVariants.{Ended, Refused}
+use Rattle.hp_shared.specs.Journal.{entry}
 use Rattle.hp_shared.specs.Replies.{IsCall}
+use Rattle.hp_race.specs.declared.chances.Chances.{Chances}
 use Rattle.hp_race.specs.declared.racer.Ending.{Ending}
 use Rattle.hp_race.specs.declared.racer.Ending.TheVariants.{Made, Astray, Memory}
+
+-- whether tasks may be killed in a race with these chances
+abbrev pub is_mortal : Chances → Bool
+is_mortal chances = nat_lt 0 chances.kill
 
 -- whether a call of a task that isn't there any more may be refused so
 abbrev pub is_not_alive : Refusal → Bool
@@ -20,36 +28,62 @@ is_not_alive Idle = false
 is_not_alive BadSize = false
 
 -- whether a call may end so, where the task's list had so many entries before and has so many after: it is answered, or, of a
--- task that has exited, refused with no entry
-abbrev pub may_end : (gone : Bool) → Reply → (before after : ℕ) → Bool
-may_end gone (Ended answer) before after = not gone
-may_end gone (Refused why) before after = gone && (is_not_alive why && after == before)
+-- task that has exited or may have been killed, refused with no entry
+abbrev pub may_end : (mortal gone : Bool) → Reply → (before after : ℕ) → Bool
+may_end mortal gone (Ended answer) before after = not gone
+may_end mortal gone (Refused why) before after = (mortal || gone) && (is_not_alive why && after == before)
 
--- what such a call makes of the list: a begin, moves, and the end with an answer; nothing where the task has exited
-abbrev pub CallMade : (task : ℕ) → (gone : Bool) → Op → List Entry → List Entry → Type 0
-CallMade task false op old new = (answer : Answer) × IsCall task op (Ended answer) old new
-CallMade task true op old new = new ≡ old
+-- what an answered call makes of the list: a begin, moves, and the end with an answer; nothing where the task has exited
+abbrev pub CallAnswered : (task : ℕ) → (gone : Bool) → Op → List Entry → List Entry → Type 0
+CallAnswered task false op old new = (answer : Answer) × IsCall task op (Ended answer) old new
+CallAnswered task true op old new = new ≡ old
 
--- and one that ended otherwise
-abbrev pub CallStrayed : (task : ℕ) → (gone : Bool) → Op → List Entry → List Entry → Type 0
-CallStrayed task gone op old new =
-    (reply : Reply) × IsCall task op reply old new × (may_end gone reply (length old) (length new) ≡ false)
+-- the same of a task that may have been killed: its call may also be refused, which makes nothing
+abbrev pub CallMet : (task : ℕ) → (gone : Bool) → Op → List Entry → List Entry → Type 0
+CallMet task gone op old new = CallAnswered task gone op old new ⊎ (IsCall task op (Refused NotAlive) old new × (new ≡ old))
+
+-- and what a call makes of it that ended otherwise
+abbrev pub CallFailed : (mortal : Bool) → (task : ℕ) → (gone : Bool) → Op → List Entry → List Entry → Type 0
+CallFailed mortal task gone op old new =
+    (reply : Reply) × IsCall task op reply old new × (may_end mortal gone reply (length old) (length new) ≡ false)
+
+-- one of so many tasks was killed, which is one entry; or nothing happened: none was to be killed, or one that wasn't alive
+abbrev pub MayKill : (tasks : ℕ) → List Entry → List Entry → Type 0
+MayKill tasks old new =
+    (new ≡ old)
+    ⊎ ((position : ℕ) × (victim : ℕ) × (1 ≤ victim) × (victim ≤ tasks) × (new ≡ old ++ entry position (Kill victim) Marked ∷ []))
+
+-- a call was made, in a pool of so many tasks. Where tasks may be killed, one may be before the call, whose own task may be dead
+abbrev pub CallMade : (mortal : Bool) → (tasks task : ℕ) → (gone : Bool) → Op → List Entry → List Entry → Type 0
+CallMade false tasks task gone op old new = CallAnswered task gone op old new
+CallMade true tasks task gone op old new = (mid : List Entry) × MayKill tasks old mid × CallMet task gone op mid new
+
+-- it ended as none may
+abbrev pub CallStrayed : (mortal : Bool) → (tasks task : ℕ) → (gone : Bool) → Op → List Entry → List Entry → Type 0
+CallStrayed false tasks task gone op old new = CallFailed false task gone op old new
+CallStrayed true tasks task gone op old new = (mid : List Entry) × MayKill tasks old mid × CallFailed true task gone op mid new
+
+-- what came of the call
+abbrev pub CallEndsBy : Ending → (mortal : Bool) → (tasks task : ℕ) → (gone : Bool) → Op → List Entry → List Entry → Type 0
+CallEndsBy Made mortal tasks task gone op old new = CallMade mortal tasks task gone op old new
+CallEndsBy Astray mortal tasks task gone op old new = CallStrayed mortal tasks task gone op old new
+CallEndsBy Memory mortal tasks task gone op old new = Unit {0}
 
 -- all of the calls were made, in this order
-abbrev pub CallsMade : (task : ℕ) → (gone : Bool) → List Op → List Entry → List Entry → Type 0
-CallsMade task gone [] old new = new ≡ old
-CallsMade task gone (op ∷ ops) old new =
-    (mid : List Entry) × CallMade task gone op old mid × CallsMade task (gone || is_exit op) ops mid new
+abbrev pub CallsMade : (mortal : Bool) → (tasks task : ℕ) → (gone : Bool) → List Op → List Entry → List Entry → Type 0
+CallsMade mortal tasks task gone [] old new = new ≡ old
+CallsMade mortal tasks task gone (op ∷ ops) old new =
+    (mid : List Entry) × CallMade mortal tasks task gone op old mid × CallsMade mortal tasks task (gone || is_exit op) ops mid new
 
 -- some of them were made, and the next ended as none may
-abbrev pub CallsStrayed : (task : ℕ) → (gone : Bool) → List Op → List Entry → List Entry → Type 0
-CallsStrayed task gone [] old new = ⊥
-CallsStrayed task gone (op ∷ ops) old new =
-    CallStrayed task gone op old new
-    ⊎ ((mid : List Entry) × CallMade task gone op old mid × CallsStrayed task (gone || is_exit op) ops mid new)
+abbrev pub CallsStrayed : (mortal : Bool) → (tasks task : ℕ) → (gone : Bool) → List Op → List Entry → List Entry → Type 0
+CallsStrayed mortal tasks task gone [] old new = ⊥
+CallsStrayed mortal tasks task gone (op ∷ ops) old new =
+    CallStrayed mortal tasks task gone op old new
+    ⊎ ((mid : List Entry) × CallMade mortal tasks task gone op old mid × CallsStrayed mortal tasks task (gone || is_exit op) ops mid new)
 
 -- what came of the calls
-abbrev pub EndsBy : Ending → (task : ℕ) → (gone : Bool) → List Op → List Entry → List Entry → Type 0
-EndsBy Made task gone ops old new = CallsMade task gone ops old new
-EndsBy Astray task gone ops old new = CallsStrayed task gone ops old new
-EndsBy Memory task gone ops old new = Unit {0}
+abbrev pub EndsBy : Ending → (mortal : Bool) → (tasks task : ℕ) → (gone : Bool) → List Op → List Entry → List Entry → Type 0
+EndsBy Made mortal tasks task gone ops old new = CallsMade mortal tasks task gone ops old new
+EndsBy Astray mortal tasks task gone ops old new = CallsStrayed mortal tasks task gone ops old new
+EndsBy Memory mortal tasks task gone ops old new = Unit {0}

@@ -1,4 +1,5 @@
 pub mod Calls
+pub mod Draws
 pub mod Racers
 pub mod Parts
 pub mod Races

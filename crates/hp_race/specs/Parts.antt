@@ -28,10 +28,10 @@ call_range from most = record { from = from; most = most }
 
 -- Each task made a range of the script's calls of it, and the entries, whose positions begin with this one, are an interleaving
 -- of the lists of one seat a task and lead from that core to the part's
-pub record IsPart (script : Script) (calls : CallRange) (position : ℕ) (start : CoreState) (part : Part) : Type 0 where
+pub record IsPart (mortal : Bool) (script : Script) (calls : CallRange) (position : ℕ) (start : CoreState) (part : Part) : Type 0 where
   pub seated : AllSeated script.config.tasks part.seats
   pub count : length part.seats ≡ script.config.tasks
-  pub made : All (HasMadeIn script calls) part.seats
+  pub made : All (HasMadeIn mortal script calls) part.seats
   pub order : Interleaves position part.entries (lists_of part.seats)
   pub run : Follows start part.entries part.core
 
@@ -42,11 +42,12 @@ IsToTheEnd script from =
 
 -- Parts of at most so many calls a task, from these calls, this position and this core on: each begins where the one before ended,
 -- and behind the last no call is left, so many entries were made, and the core is this one
-abbrev pub AreParts : Script → (most from position : ℕ) → (start : CoreState) → List Part → (entries : ℕ) → CoreState → Type 0
-AreParts script most from position start [] entries core = IsToTheEnd script from × (entries ≡ position) × (core ≡ start)
-AreParts script most from position start (part ∷ parts) entries core =
-    IsPart script (call_range from most) position start part
-    × AreParts script most (from + most) (position + length part.entries) part.core parts entries core
+abbrev pub AreParts : (mortal : Bool) → Script → (most from position : ℕ) → (start : CoreState) → List Part → (entries : ℕ) → CoreState
+    → Type 0
+AreParts mortal script most from position start [] entries core = IsToTheEnd script from × (entries ≡ position) × (core ≡ start)
+AreParts mortal script most from position start (part ∷ parts) entries core =
+    IsPart mortal script (call_range from most) position start part
+    × AreParts mortal script most (from + most) (position + length part.entries) part.core parts entries core
 
 -- the entries begin at this position and lead from one core to the other, and so many were made by then
 abbrev pub GoesOn : (position : ℕ) → CoreState → (first : ℕ) → List Entry → (entries : ℕ) → CoreState → Type 0
@@ -66,12 +67,12 @@ IsVerdictOnParts made same Astray = (made ≡ false) ⊎ (¬ same)
 -- The race was closed: its parts, one after the other, are a run from the opening of the script's pool to the core whose numbers are
 -- told. Behind the last part the pool that was closed, one of the script's config, had nothing in its journal, as many entries
 -- behind it as are told, and the numbers of that core
-pub record IsClosedInParts (script : Script) (most : ℕ) (race : Race) : Type 0 where
+pub record IsClosedInParts (mortal : Bool) (script : Script) (most : ℕ) (race : Race) : Type 0 where
   pub opened : CoreState
   pub opening : IsOpening script.config opened
   pub parts : List Part
   pub core : CoreState
-  pub are : AreParts script most 0 0 opened parts race.entries core
+  pub are : AreParts mortal script most 0 0 opened parts race.entries core
   pub counts : Counts race race.entries core
   pub seats : List SeatState
   pub pool : CoreState
@@ -86,16 +87,16 @@ pub record IsGivenUp (race : Race) : Type 0 where
   pub free : race.free ≡ free_of core
   pub resv : race.resv ≡ resv_of core
 
-abbrev pub IsToldInPartsAs : Script → (most : ℕ) → Verdict → Race → Type 0
-IsToldInPartsAs script most Closed race = IsClosedInParts script most race
-IsToldInPartsAs script most (Disagree position) race = IsDisagreed script position race
-IsToldInPartsAs script most Astray race = IsGivenUp race
+abbrev pub IsToldInPartsAs : (mortal : Bool) → Script → (most : ℕ) → Verdict → Race → Type 0
+IsToldInPartsAs mortal script most Closed race = IsClosedInParts mortal script most race
+IsToldInPartsAs mortal script most (Disagree position) race = IsDisagreed script position race
+IsToldInPartsAs mortal script most Astray race = IsGivenUp race
 
 -- what is told of a race whose journal is cut behind so many calls of each task is so
-abbrev pub IsToldInParts : Script → (most : ℕ) → Race → Type 0
-IsToldInParts script most race = IsToldInPartsAs script most race.verdict race
+abbrev pub IsToldInParts : (mortal : Bool) → Script → (most : ℕ) → Race → Type 0
+IsToldInParts mortal script most race = IsToldInPartsAs mortal script most race.verdict race
 
 -- the same of a race whose journal is cut so, or not at all
-abbrev pub IsToldBy : Script → (cut : Option ℕ) → Race → Type 0
-IsToldBy script None race = IsTold script race
-IsToldBy script (Some most) race = IsToldInParts script most race
+abbrev pub IsToldBy : (mortal : Bool) → Script → (cut : Option ℕ) → Race → Type 0
+IsToldBy mortal script None race = IsTold mortal script race
+IsToldBy mortal script (Some most) race = IsToldInParts mortal script most race

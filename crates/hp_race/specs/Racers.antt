@@ -18,30 +18,31 @@ calls_in call_range calls = take call_range.most (drop call_range.from calls)
 abbrev pub is_gone : CallRange → List Op → Bool
 is_gone call_range calls = list_any is_exit (take call_range.from calls)
 
--- the seat's task has made the script's calls of it, one after the other, and nothing else
-abbrev pub HasMade : Script → SeatState → Type 0
-HasMade script s = CallsMade s.task false (calls_of script.calls.items s.task) [] s.list
+-- the seat's task has made the script's calls of it, one after the other, and nothing else; where tasks may be killed, it may have
+-- killed one before each
+abbrev pub HasMade : (mortal : Bool) → Script → SeatState → Type 0
+HasMade mortal script s = CallsMade mortal script.config.tasks s.task false (calls_of script.calls.items s.task) [] s.list
 
 -- it has made some of them, and the next ended as none may
-abbrev pub HasStrayed : Script → SeatState → Type 0
-HasStrayed script s = CallsStrayed s.task false (calls_of script.calls.items s.task) [] s.list
+abbrev pub HasStrayed : (mortal : Bool) → Script → SeatState → Type 0
+HasStrayed mortal script s = CallsStrayed mortal script.config.tasks s.task false (calls_of script.calls.items s.task) [] s.list
 
-abbrev pub SomeStrayed : Script → List SeatState → Type 0
-SomeStrayed script seats = Any (HasStrayed script) seats
+abbrev pub SomeStrayed : (mortal : Bool) → Script → List SeatState → Type 0
+SomeStrayed mortal script seats = Any (HasStrayed mortal script) seats
 
 -- the same of a range of those calls
-abbrev pub HasMadeIn : Script → CallRange → SeatState → Type 0
-HasMadeIn script call_range s =
+abbrev pub HasMadeIn : (mortal : Bool) → Script → CallRange → SeatState → Type 0
+HasMadeIn mortal script call_range s =
     let calls = calls_of script.calls.items s.task in
-    CallsMade s.task (is_gone call_range calls) (calls_in call_range calls) [] s.list
+    CallsMade mortal script.config.tasks s.task (is_gone call_range calls) (calls_in call_range calls) [] s.list
 
-abbrev pub HasStrayedIn : Script → CallRange → SeatState → Type 0
-HasStrayedIn script call_range s =
+abbrev pub HasStrayedIn : (mortal : Bool) → Script → CallRange → SeatState → Type 0
+HasStrayedIn mortal script call_range s =
     let calls = calls_of script.calls.items s.task in
-    CallsStrayed s.task (is_gone call_range calls) (calls_in call_range calls) [] s.list
+    CallsStrayed mortal script.config.tasks s.task (is_gone call_range calls) (calls_in call_range calls) [] s.list
 
-abbrev pub SomeStrayedIn : Script → CallRange → List SeatState → Type 0
-SomeStrayedIn script call_range seats = Any (HasStrayedIn script call_range) seats
+abbrev pub SomeStrayedIn : (mortal : Bool) → Script → CallRange → List SeatState → Type 0
+SomeStrayedIn mortal script call_range seats = Any (HasStrayedIn mortal script call_range) seats
 
 -- the seat has made nothing
 abbrev pub IsNew : SeatState → Type 0
@@ -52,7 +53,7 @@ abbrev pub IsSet : Script → List Op → SeatState → Type 0
 IsSet script calls s = (calls ≡ calls_of script.calls.items s.task) × IsNew s
 
 -- what came of a racer's calls, which are a range of the script's
-abbrev pub HasRun : Script → CallRange → Ending → SeatState → Type 0
-HasRun script call_range ending s =
+abbrev pub HasRun : (mortal : Bool) → Script → CallRange → Ending → SeatState → Type 0
+HasRun mortal script call_range ending s =
     let calls = calls_of script.calls.items s.task in
-    EndsBy ending s.task (is_gone call_range calls) (calls_in call_range calls) [] s.list
+    EndsBy ending mortal script.config.tasks s.task (is_gone call_range calls) (calls_in call_range calls) [] s.list

@@ -22,22 +22,22 @@ use Rattle.hp_race.specs.declared.line.Verdict.TheVariants.{Closed, Disagree, As
 
 -- The journal is a race of the script, which came to this core: it leads there from the opening of the script's pool, and is
 -- an interleaving of the lists of one seat a task, each of which is made by the script's calls of that task
-pub record IsRace (script : Script) (journal : List Entry) (core : CoreState) : Type 0 where
+pub record IsRace (mortal : Bool) (script : Script) (journal : List Entry) (core : CoreState) : Type 0 where
   pub opened : CoreState
   pub opening : IsOpening script.config opened
   pub run : Follows opened journal core
   pub seats : List SeatState
   pub seated : AllSeated script.config.tasks seats
   pub count : length seats ≡ script.config.tasks
-  pub made : All (HasMade script) seats
+  pub made : All (HasMade mortal script) seats
   pub order : Interleaves 0 journal (lists_of seats)
 
 -- The trace has the script's sizes, and its events are those of the journal of a race of the script, in order, as many as a
 -- trace may have
-pub record IsTraceOf (script : Script) (z : Sizes) (events : List Event) : Type 0 where
+pub record IsTraceOf (mortal : Bool) (script : Script) (z : Sizes) (events : List Event) : Type 0 where
   pub journal : List Entry
   pub core : CoreState
-  pub is : IsRace script journal core
+  pub is : IsRace mortal script journal core
   pub config : z ≡ sizes script.config
   pub order : events ≡ events_of (take MOST_EVENTS journal)
 
@@ -56,10 +56,10 @@ IsVerdictOn made first (Disagree position) = ⊥
 IsVerdictOn made first Astray = (made ≡ false) ⊎ (¬ (first ≡ 0))
 
 -- the race was closed
-pub record IsClosed (script : Script) (race : Race) : Type 0 where
+pub record IsClosed (mortal : Bool) (script : Script) (race : Race) : Type 0 where
   pub journal : List Entry
   pub core : CoreState
-  pub is : IsRace script journal core
+  pub is : IsRace mortal script journal core
   pub counts : Counts race (length journal) core
 
 -- the seats' lists aren't those of the journal, from this position on
@@ -78,24 +78,24 @@ abbrev pub HasOtherSizes : Script → Type 0
 HasOtherSizes script = (core : CoreState) × IsCameTo core × (¬ (config_of core ≡ sizes script.config))
 
 -- a call ended as none may, what was closed isn't what was opened, a seat is missing, or there was a pool of other sizes
-pub record IsAstray (script : Script) (race : Race) : Type 0 where
+pub record IsAstray (mortal : Bool) (script : Script) (race : Race) : Type 0 where
   pub seats : List SeatState
   pub first : ℕ
   pub core : CoreState
   pub came : IsCameTo core
-  pub why : SomeStrayed script seats
+  pub why : SomeStrayed mortal script seats
       ⊎ ((¬ IsOfScript script first core) ⊎ (((task : ℕ) × LeastMissing script.config.tasks seats task) ⊎ HasOtherSizes script))
   pub free : race.free ≡ free_of core
   pub resv : race.resv ≡ resv_of core
 
-abbrev pub IsToldAs : Script → Verdict → Race → Type 0
-IsToldAs script Closed race = IsClosed script race
-IsToldAs script (Disagree position) race = IsDisagreed script position race
-IsToldAs script Astray race = IsAstray script race
+abbrev pub IsToldAs : (mortal : Bool) → Script → Verdict → Race → Type 0
+IsToldAs mortal script Closed race = IsClosed mortal script race
+IsToldAs mortal script (Disagree position) race = IsDisagreed script position race
+IsToldAs mortal script Astray race = IsAstray mortal script race
 
 -- what is told of a race is so
-abbrev pub IsTold : Script → Race → Type 0
-IsTold script race = IsToldAs script race.verdict race
+abbrev pub IsTold : (mortal : Bool) → Script → Race → Type 0
+IsTold mortal script race = IsToldAs mortal script race.verdict race
 
 -- what is told of a pool that wasn't closed
 abbrev pub IsToldOfRefused : CloseFault → Tally → Race → Type 0
@@ -115,15 +115,15 @@ HaveDisagreed seats = (first : ℕ) × (journal : List Entry) × (position : ℕ
 
 -- A race of the script wasn't closed: a call ended as none may, what was closed isn't what was opened, a seat is missing, or the
 -- seats' lists aren't those of the journal
-pub record IsUnclosed (script : Script) : Type 0 where
+pub record IsUnclosed (mortal : Bool) (script : Script) : Type 0 where
   pub seats : List SeatState
-  pub why : SomeStrayed script seats ⊎ (HasClosedAnother script
+  pub why : SomeStrayed mortal script seats ⊎ (HasClosedAnother script
       ⊎ (((task : ℕ) × LeastMissing script.config.tasks seats task) ⊎ HaveDisagreed seats))
 
 -- what is kept of a race: its trace, or nothing where it wasn't closed
-abbrev pub IsKept : Script → Option Trace → Type 0
-IsKept script None = IsUnclosed script
-IsKept script (Some trace) = IsTraceOf script (sizes trace.config) trace.events.items
+abbrev pub IsKept : (mortal : Bool) → Script → Option Trace → Type 0
+IsKept mortal script None = IsUnclosed mortal script
+IsKept mortal script (Some trace) = IsTraceOf mortal script (sizes trace.config) trace.events.items
 
 -- what is kept of a pool that was closed with this journal
 abbrev pub IsKeptOf : Script → (made : Bool) → (first : ℕ) → (journal : List Entry) → Option Trace → Type 0

@@ -23,30 +23,31 @@ abbrev pub is_closed : Race → Bool
 is_closed race = is_verdict_closed race.verdict
 
 -- a line was written for each race, numbered from 0, and it is known whether all were closed
-pub record WroteRaces (script : Script) (cut : Option ℕ) (times : ℕ) (closed : Bool) (before after : Option (List ℕ)) : Type 0 where
+pub record WroteRaces (mortal : Bool) (script : Script) (cut : Option ℕ) (times : ℕ) (closed : Bool)
+    (before after : Option (List ℕ)) : Type 0 where
   pub races : List Race
   pub count : length races ≡ times
-  pub each : All (IsToldBy script cut) races
+  pub each : All (IsToldBy mortal script cut) races
   pub wrote : Appends before after (lines_text 0 races)
   pub ends : closed ≡ list_all is_closed races
 
 -- a front of the lines of some races was written
-pub record WroteSomeRaces (script : Script) (cut : Option ℕ) (times : ℕ) (before after : Option (List ℕ)) : Type 0 where
+pub record WroteSomeRaces (mortal : Bool) (script : Script) (cut : Option ℕ) (times : ℕ) (before after : Option (List ℕ)) : Type 0 where
   pub races : List Race
   pub few : length races ≤ times
-  pub each : All (IsToldBy script cut) races
+  pub each : All (IsToldBy mortal script cut) races
   pub wrote : Wrote before after (lines_text 0 races)
 
 -- the trace of a race was written where it was closed, and nothing where it wasn't
-abbrev pub WroteTrace : Script → (closed : Bool) → (before after : Option (List ℕ)) → Type 0
-WroteTrace script true before after =
-    (events : List Event) × IsTraceOf script (sizes script.config) events
+abbrev pub WroteTrace : (mortal : Bool) → Script → (closed : Bool) → (before after : Option (List ℕ)) → Type 0
+WroteTrace mortal script true before after =
+    (events : List Event) × IsTraceOf mortal script (sizes script.config) events
     × Appends before after (trace_text (sizes script.config) events)
-WroteTrace script false before after = IsUnclosed script × Keeps before after
+WroteTrace mortal script false before after = IsUnclosed mortal script × Keeps before after
 
 -- a front of it was written, or nothing
-abbrev pub WroteSomeTrace : Script → (before after : Option (List ℕ)) → Type 0
-WroteSomeTrace script before after =
+abbrev pub WroteSomeTrace : (mortal : Bool) → Script → (before after : Option (List ℕ)) → Type 0
+WroteSomeTrace mortal script before after =
     Keeps before after
-    ⊎ ((events : List Event) × IsTraceOf script (sizes script.config) events
+    ⊎ ((events : List Event) × IsTraceOf mortal script (sizes script.config) events
     × Wrote before after (trace_text (sizes script.config) events))

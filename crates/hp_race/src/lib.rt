@@ -2,12 +2,14 @@
 //!
 //! It stands on hp_shared, whose pool the threads use, and on hp_text, whose scripts it races and by which it writes. It
 //! promises of a race that was closed that its journal is a run of the script's pool and an interleaving of the histories
-//! of its tasks, each of which made the script's calls of that task, in order and each to its end. Which race of many it
-//! is it doesn't know, nor when a thread goes on.
+//! of its tasks, each of which made the script's calls of that task, in order and each to its end. Where tasks are killed by
+//! chance, kills stand between the calls, and some calls were refused. Which race of many it is it doesn't know, nor when a
+//! thread goes on.
 #![tactic(auto)]
 
 mod again;
 mod call_range;
+mod chances;
 mod line;
 mod parts;
 mod racer;
@@ -16,6 +18,7 @@ mod starting_line;
 mod telling;
 mod writing;
 
+pub use chances::Chances;
 pub use line::{Race, Verdict};
 pub use parts::race_in_parts;
 pub use racing::{race, race_trace};

@@ -5,13 +5,15 @@ ghost use Rattle.hp_shared.specs.Cutting.{emptied};
 ghost use Rattle.hp_shared.specs.Journal.{Follows, Interleaves};
 ghost use Rattle.hp_shared.specs.Seats.{AllSeated, has_seat as seated, lists_of};
 ghost use Rattle.hp_shared.specs.declared.entry.Entry.{Entry};
+ghost use Rattle.hp_race.specs.Calls.{is_mortal};
 ghost use Rattle.hp_race.specs.Racers.{IsNew};
 ghost use Rattle.hp_race.specs.Parts.{AreParts, IsPart, IsToTheEnd, IsToldInParts, Part as PartOf};
 
 use crate::again::Again;
 use crate::call_range::CallRange;
+use crate::chances::Chances;
 use crate::line::Race;
-use crate::racer::make_range;
+use crate::racer::{Track, make_range};
 use crate::telling::{told_of_parts, told_of_refused};
 use hp_base::Task;
 use hp_shared::{CutFault, Seat, Shared};
@@ -30,12 +32,13 @@ pub fn race_in_parts<R: Threads + Wait + Sync>(
     rt: &R,
     alloc: Global,
     script: &Script,
+    chances: Chances,
     most: NonZeroU32,
 ) -> Result<Race, AllocError>
-    ensures { IfOk result (λ race. IsToldInParts script.now (non_zero_u32_get most) race) }
+    ensures { IfOk result (λ race. IsToldInParts (is_mortal chances) script.now (non_zero_u32_get most) race) }
 {
     let blank = Blank::new(u64::from(script.config.tasks));
-    parts_by::<Brand, _>(rt, alloc, blank, script, most.get() as usize)
+    parts_by::<Brand, _>(rt, alloc, blank, script, chances, most.get() as usize)
 }
 
 // The same, by the ledger of that blank.
@@ -44,17 +47,22 @@ fn parts_by<L: Ledger + Send + Sync, R: Threads + Wait + Sync>(
     alloc: Global,
     blank: Blank,
     script: &Script,
+    chances: Chances,
     most: usize,
 ) -> Result<Race, AllocError>
     requires name { blank.name ≡ L.name }
     requires parts { (blank.parts ≡ L.parts) × (blank.parts ≡ script.now.config.tasks) }
     requires some { 0 < most }
     requires few { most < 2 ^ 32 }
-    ensures { IfOk result (λ race. IsToldInParts script.now most race) }
+    ensures { IfOk result (λ race. IsToldInParts (is_mortal chances) script.now most race) }
 {
     let (shared, seats) = Shared::<L>::new(alloc, blank, script.config)?;
     let mut again = Again::new(alloc, script.config)?;
-    let (made, seats) = make_parts(rt, alloc, script, most, &shared, &mut again, seats)?;
+    let track = Track {
+        shared: &shared,
+        chances,
+    };
+    let (made, seats) = make_parts(rt, alloc, script, most, &track, &mut again, seats)?;
     let tally = shared.tally(rt);
     match shared.close(alloc, seats) {
         Ok(closed) => Ok(told_of_parts(made, &again, &closed)),
@@ -68,7 +76,7 @@ fn make_parts<L: Ledger + Send + Sync, R: Threads + Wait + Sync>(
     alloc: Global,
     script: &Script,
     most: usize,
-    shared: &Shared<L>,
+    track: &Track<'_, L>,
     again: &mut Again,
     seats: Vec<Seat<L>>,
 ) -> Result<(bool, Vec<Seat<L>>), AllocError>
@@ -78,14 +86,15 @@ fn make_parts<L: Ledger + Send + Sync, R: Threads + Wait + Sync>(
     requires count { length seats.items ≡ script.now.config.tasks }
     ensures count { IfOk result (λ ran. length ran.1.items ≡ script.now.config.tasks) }
     ensures parts { IfOk result (λ ran. ran.0 ≡ true → (parts : List PartOf)
-        × AreParts script.now most 0 again.old.entries again.old.core parts again.new.entries again.new.core) }
+        × AreParts (is_mortal track.now.chances) script.now most 0 again.old.entries again.old.core parts
+        again.new.entries again.new.core) }
 {
     let longest = longest(alloc, script)?;
     let mut seats = seats;
     let mut from = 0;
     while from < longest {
         let call_range = CallRange { from, most };
-        let (is_made, back) = make_part(rt, alloc, script, call_range, shared, again, seats)?;
+        let (is_made, back) = make_part(rt, alloc, script, call_range, track, again, seats)?;
         if !is_made {
             return Ok((false, back));
         }
@@ -101,7 +110,7 @@ fn make_part<L: Ledger + Send + Sync, R: Threads + Wait + Sync>(
     alloc: Global,
     script: &Script,
     call_range: CallRange,
-    shared: &Shared<L>,
+    track: &Track<'_, L>,
     again: &mut Again,
     seats: Vec<Seat<L>>,
 ) -> Result<(bool, Vec<Seat<L>>), AllocError>
@@ -110,18 +119,18 @@ fn make_part<L: Ledger + Send + Sync, R: Threads + Wait + Sync>(
     ensures count { IfOk result (λ ran. length ran.1.items ≡ script.now.config.tasks) }
     ensures new { IfOk result (λ ran. ran.0 ≡ true → All IsNew ran.1.items) }
     ensures part { IfOk result (λ ran. ran.0 ≡ true → (part : PartOf)
-        × IsPart script.now call_range again.old.entries again.old.core part
+        × IsPart (is_mortal track.now.chances) script.now call_range again.old.entries again.old.core part
         × (again.new.entries ≡ again.old.entries + length part.entries)
         × (again.new.core ≡ part.core)) }
 {
-    let (made, mut seats) = make_range(rt, alloc, shared, script, call_range, seats)?;
+    let (made, mut seats) = make_range(rt, alloc, track, script, call_range, seats)?;
     if !made {
         return Ok((false, seats));
     }
     if !are_seated(script.config.tasks, seats.as_slice()) {
         return Ok((false, seats));
     }
-    let cut = cut_part(rt, alloc, shared, again, &mut seats)?;
+    let cut = cut_part(rt, alloc, track.shared, again, &mut seats)?;
     Ok((cut, seats))
 }
 

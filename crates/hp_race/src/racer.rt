@@ -1,16 +1,17 @@
 //! A task's place in a race: its seat, and the calls that it is to make.
-ghost use Rattle.std.specs.Prelude.{◌≡◌, ◌+◌, IfOk, All, true, false, length, [], MatchBool};
+ghost use Rattle.std.specs.Prelude.{◌≡◌, ◌+◌, Bool, IfOk, OnOk, All, true, false, length, nat_lt, [], MatchBool};
 ghost use Rattle.std.specs.List.{list_any};
 ghost use Rattle.hp_text.specs.Scripts.{calls_of};
 ghost use Rattle.hp_machine.specs.Events.{is_exit};
-ghost use Rattle.hp_race.specs.Calls.{EndsBy, may_end};
+ghost use Rattle.hp_race.specs.Calls.{CallEndsBy, EndsBy, MayKill, is_mortal, may_end};
 ghost use Rattle.hp_race.specs.Racers.{HasMadeIn, HasRun, HasStrayedIn, IsNew, IsSet, SomeStrayedIn, calls_in, is_gone};
 
 use crate::call_range::CallRange;
-use crate::starting_line::StartingLine;
-use hp_base::Op;
+use crate::chances::{Chances, Draws, stream};
+use crate::starting_line::{Course, StartingLine};
+use hp_base::{Event, Op};
 use hp_core::Refusal;
-use hp_shared::{Halting, Reply, Seat, Shared, call};
+use hp_shared::{CallFault, Halting, Hold, Reply, Seat, Shared, call};
 use hp_text::Script;
 use std::alloc::{AllocError, Global};
 use std::sync::Wait;
@@ -27,6 +28,13 @@ pub(crate) enum Ending {
     Astray,
     /// Memory was wanted.
     Memory,
+}
+
+/// The pool of a race, and what happens to it by chance.
+#[derive(Drop)]
+pub(crate) struct Track<'a, L: Ledger> {
+    pub(crate) shared: &'a Shared<L>,
+    pub(crate) chances: Chances,
 }
 
 /// A task's seat, its calls, and what came of them.
@@ -50,38 +58,81 @@ fn has_exit(calls: &[Op]) -> bool
     calls.iter().any(is_exit)
 }
 
-// Whether a call may end so, of a task that has exited or not, where its seat had so many entries before and has so many
-// now.
-fn may_end(gone: bool, reply: Reply, before: usize, after: usize) -> bool
-    ensures { result ≡ may_end gone reply before after }
+// Whether a call may end so, of a task that may have been killed or not, and has exited or not, where its seat had so many
+// entries before and has so many now.
+fn may_end(mortal: bool, gone: bool, reply: Reply, before: usize, after: usize) -> bool
+    ensures { result ≡ may_end mortal gone reply before after }
 {
     match reply {
         Reply::Ended(_) => !gone,
-        Reply::Refused(Refusal::NotAlive) => gone && after == before,
+        Reply::Refused(Refusal::NotAlive) => (mortal || gone) && after == before,
         Reply::Refused(_) => false,
     }
+}
+
+// Kills a task, where one is drawn. If it isn't alive the pool refuses that, and nothing happens.
+fn strike<L: Ledger, R: Wait>(
+    rt: &R,
+    hold: &Halting<'_, L>,
+    course: &Course,
+    seat: &mut Seat<L>,
+) -> Result<(), CallFault>
+    ensures task { seat.new.task ≡ seat.old.task }
+    ensures never { course.now.draws.kill ≡ 0 → seat.new.list ≡ seat.old.list }
+    ensures kill { OnOk result (MayKill course.now.config.tasks seat.old.list seat.new.list) }
+{
+    if let Some(victim) = course.draws.victim(course.config.tasks) {
+        hold.attempt(rt, seat, Event::Kill(victim))?;
+    }
+    Ok(())
+}
+
+// Makes a call, behind the kill that is drawn, if one is. The task may have exited before.
+fn make_call<L: Ledger, R: Wait>(
+    rt: &R,
+    hold: &Halting<'_, L>,
+    course: &Course,
+    seat: &mut Seat<L>,
+    gone: bool,
+    op: Op,
+) -> Ending
+    ensures task { seat.new.task ≡ seat.old.task }
+    ensures call { CallEndsBy result (nat_lt 0 course.now.draws.kill) course.now.config.tasks seat.old.task gone op
+        seat.old.list seat.new.list }
+{
+    if strike(rt, hold, course, seat).is_err() {
+        return Ending::Memory;
+    }
+    let before = seat.list().len();
+    let Ok(reply) = call(hold, rt, seat, op, course) else {
+        return Ending::Memory;
+    };
+    let after = seat.list().len();
+    if !may_end(course.draws.is_mortal(), gone, reply, before, after) {
+        return Ending::Astray;
+    }
+    Ending::Made
 }
 
 // Makes the calls, one after the other, until one ends as none may or memory is wanted. The task may have exited before.
 fn make_calls<L: Ledger, R: Wait>(
     rt: &R,
     hold: &Halting<'_, L>,
-    starting_line: &StartingLine,
+    course: &Course,
     seat: &mut Seat<L>,
     had_exited: bool,
     calls: &[Op],
 ) -> Ending
     ensures task { seat.new.task ≡ seat.old.task }
-    ensures calls { EndsBy result seat.old.task had_exited calls.now seat.old.list seat.new.list }
+    ensures calls { EndsBy result (nat_lt 0 course.now.draws.kill) course.now.config.tasks seat.old.task had_exited calls.now
+        seat.old.list seat.new.list }
 {
     let mut gone = had_exited;
     for op in calls {
-        let before = seat.list().len();
-        let Ok(reply) = call(hold, rt, seat, *op, starting_line) else {
-            return Ending::Memory;
-        };
-        if !may_end(gone, reply, before, seat.list().len()) {
-            return Ending::Astray;
+        match make_call(rt, hold, course, seat, gone, *op) {
+            Ending::Made => {}
+            Ending::Astray => return Ending::Astray,
+            Ending::Memory => return Ending::Memory,
         }
         gone |= is_exit(op);
     }
@@ -95,19 +146,24 @@ fn run_racer<L: Ledger, R: Wait>(
     starting_line: &StartingLine,
     script: &Script,
     call_range: CallRange,
+    chances: Chances,
     racer: &mut Racer<L>,
 )
     requires { IsSet script.now racer.old.calls.items racer.old.seat }
-    ensures { HasRun script.now call_range racer.new.ending racer.new.seat }
+    ensures { HasRun (is_mortal chances) script.now call_range racer.new.ending racer.new.seat }
 {
     let Racer {
         seat,
         calls,
         ending,
     } = racer;
+    let course = Course {
+        draws: Draws::new(chances, stream(call_range, seat.task())),
+        config: script.config,
+    };
     starting_line.line_up();
     let (before, calls) = call_range.split(calls.as_slice());
-    *ending = make_calls(rt, hold, starting_line, seat, has_exit(before), calls);
+    *ending = make_calls(rt, hold, &course, seat, has_exit(before), calls);
 }
 
 // A racer for each seat whose task has calls in the range, and the other seats.
@@ -119,7 +175,7 @@ fn set_racers<L: Ledger>(
 ) -> Result<(Vec<Racer<L>>, Vec<Seat<L>>), AllocError>
     requires { All IsNew seats.items }
     ensures racers { IfOk result (λ set. All (λ d. IsSet script.now d.calls.items d.seat) set.0.items) }
-    ensures idle { IfOk result (λ set. All (HasMadeIn script.now call_range) set.1.items) }
+    ensures idle { IfOk result (λ set. (mortal : Bool) → All (HasMadeIn mortal script.now call_range) set.1.items) }
     ensures count { IfOk result (λ set. length set.0.items + length set.1.items ≡ length seats.items) }
 {
     let mut racers = Vec::new(alloc);
@@ -144,45 +200,58 @@ fn set_racers<L: Ledger>(
 // stop: whoever waits for what its call holds would wait for good.
 fn run_racers<L: Ledger + Send + Sync, R: Threads + Wait + Sync>(
     rt: &R,
-    shared: &Shared<L>,
+    track: &Track<'_, L>,
     script: &Script,
     call_range: CallRange,
     racers: &mut [Racer<L>],
 )
     requires { All (λ d. IsSet script.now d.calls.items d.seat) racers.old }
-    ensures ran { All (λ d. HasRun script.now call_range d.ending d.seat) racers.new }
+    ensures ran { All (λ d. HasRun (is_mortal track.now.chances) script.now call_range d.ending d.seat) racers.new }
     ensures count { length racers.new ≡ length racers.old }
 {
     let count = racers.len();
     if count == 0 {
         return;
     }
-    let (hold, starting_line) = (Halting::new(shared), StartingLine::new(count));
+    let (hold, starting_line) = (Halting::new(track.shared), StartingLine::new(count));
+    let chances = track.chances;
     thread::for_each_mut(
         rt,
         racers,
         count,
         &|_: usize, racer: &mut Racer<L>|
             requires { IsSet script.now racer.old.calls.items racer.old.seat }
-            ensures { HasRun script.entry.now call_range racer.new.ending racer.new.seat }
-        { run_racer(rt, &hold, &starting_line, script, call_range, racer) },
+            ensures { HasRun (is_mortal chances) script.entry.now call_range racer.new.ending racer.new.seat }
+        {
+            run_racer(
+                rt,
+                &hold,
+                &starting_line,
+                script,
+                call_range,
+                chances,
+                racer,
+            )
+        },
     );
 }
 
 // The seats of the racers beside the others, and whether all calls were made.
 fn gather_seats<L: Ledger>(
+    chances: Chances,
     script: &Script,
     call_range: CallRange,
     racers: Vec<Racer<L>>,
     idle: Vec<Seat<L>>,
 ) -> Result<(bool, Vec<Seat<L>>), AllocError>
-    requires ran { All (λ d. HasRun script.now call_range d.ending d.seat) racers.items }
-    requires idle { All (HasMadeIn script.now call_range) idle.items }
+    requires ran { All (λ d. HasRun (is_mortal chances) script.now call_range d.ending d.seat) racers.items }
+    requires idle { All (HasMadeIn (is_mortal chances) script.now call_range) idle.items }
     ensures calls { IfOk result (λ gathered.
-        MatchBool gathered.0 (All (HasMadeIn script.now call_range) gathered.1.items)
-        (SomeStrayedIn script.now call_range gathered.1.items)) }
+        MatchBool gathered.0 (All (HasMadeIn (is_mortal chances) script.now call_range) gathered.1.items)
+        (SomeStrayedIn (is_mortal chances) script.now call_range gathered.1.items)) }
     ensures count { IfOk result (λ gathered. length gathered.1.items ≡ length racers.items + length idle.items) }
 {
+    let _ = chances;
     let _ = script;
     let _ = call_range;
     let mut seats = idle;
@@ -207,7 +276,7 @@ fn gather_seats<L: Ledger>(
 pub(crate) fn make_range<L: Ledger + Send + Sync, R: Threads + Wait + Sync>(
     rt: &R,
     alloc: Global,
-    shared: &Shared<L>,
+    track: &Track<'_, L>,
     script: &Script,
     call_range: CallRange,
     seats: Vec<Seat<L>>,
@@ -215,9 +284,10 @@ pub(crate) fn make_range<L: Ledger + Send + Sync, R: Threads + Wait + Sync>(
     requires { All IsNew seats.items }
     ensures count { IfOk result (λ ran. length ran.1.items ≡ length seats.items) }
     ensures calls { IfOk result (λ ran.
-        MatchBool ran.0 (All (HasMadeIn script.now call_range) ran.1.items) (SomeStrayedIn script.now call_range ran.1.items)) }
+        MatchBool ran.0 (All (HasMadeIn (is_mortal track.now.chances) script.now call_range) ran.1.items)
+        (SomeStrayedIn (is_mortal track.now.chances) script.now call_range ran.1.items)) }
 {
     let (mut racers, idle) = set_racers(alloc, script, call_range, seats)?;
-    run_racers(rt, shared, script, call_range, &mut racers);
-    gather_seats(script, call_range, racers, idle)
+    run_racers(rt, track, script, call_range, &mut racers);
+    gather_seats(track.chances, script, call_range, racers, idle)
 }

@@ -1,11 +1,13 @@
 //! One race, from the opening of its pool to its end.
 ghost use Rattle.std.specs.Prelude.{◌≡◌, ◌≤◌, All, IfOk, IfSome, MatchBool, length};
+ghost use Rattle.hp_race.specs.Calls.{is_mortal};
 ghost use Rattle.hp_race.specs.Racers.{HasMade, SomeStrayed};
 ghost use Rattle.hp_race.specs.Races.{IsKept, IsTold};
 
 use crate::call_range::CallRange;
+use crate::chances::Chances;
 use crate::line::Race;
-use crate::racer::make_range;
+use crate::racer::{Track, make_range};
 use crate::telling::{keep, tell};
 use hp_shared::{Seat, Shared};
 use hp_text::{MOST_EVENTS, Script, Trace};
@@ -21,11 +23,12 @@ pub fn race<R: Threads + Wait + Sync>(
     rt: &R,
     alloc: Global,
     script: &Script,
+    chances: Chances,
 ) -> Result<Race, AllocError>
-    ensures { IfOk result (λ race. IsTold script.now race) }
+    ensures { IfOk result (λ race. IsTold (is_mortal chances) script.now race) }
 {
     let blank = Blank::new(u64::from(script.config.tasks));
-    race_by::<Brand, _>(rt, alloc, blank, script)
+    race_by::<Brand, _>(rt, alloc, blank, script, chances)
 }
 
 /// Races them, and gives what happened to the pool as a trace, where the race was closed: whoever replays it sees that race.
@@ -34,12 +37,13 @@ pub fn race_trace<R: Threads + Wait + Sync>(
     rt: &R,
     alloc: Global,
     script: &Script,
+    chances: Chances,
 ) -> Result<Option<Trace>, AllocError>
-    ensures race { IfOk result (λ kept. IsKept script.now kept) }
+    ensures race { IfOk result (λ kept. IsKept (is_mortal chances) script.now kept) }
     ensures few { IfOk result (λ kept. IfSome kept (λ trace. length trace.events.items ≤ MOST_EVENTS)) }
 {
     let blank = Blank::new(u64::from(script.config.tasks));
-    trace_by::<Brand, _>(rt, alloc, blank, script)
+    trace_by::<Brand, _>(rt, alloc, blank, script, chances)
 }
 
 // The same of each, by the ledger of that blank.
@@ -48,13 +52,14 @@ fn race_by<L: Ledger + Send + Sync, R: Threads + Wait + Sync>(
     alloc: Global,
     blank: Blank,
     script: &Script,
+    chances: Chances,
 ) -> Result<Race, AllocError>
     requires name { blank.name ≡ L.name }
     requires parts { (blank.parts ≡ L.parts) × (blank.parts ≡ script.now.config.tasks) }
-    ensures { IfOk result (λ race. IsTold script.now race) }
+    ensures { IfOk result (λ race. IsTold (is_mortal chances) script.now race) }
 {
-    let (shared, made, seats) = run_by::<L, _>(rt, alloc, blank, script)?;
-    tell(rt, alloc, script, shared, made, seats)
+    let (shared, made, seats) = run_by::<L, _>(rt, alloc, blank, script, chances)?;
+    tell(rt, alloc, script, chances, shared, made, seats)
 }
 
 fn trace_by<L: Ledger + Send + Sync, R: Threads + Wait + Sync>(
@@ -62,14 +67,15 @@ fn trace_by<L: Ledger + Send + Sync, R: Threads + Wait + Sync>(
     alloc: Global,
     blank: Blank,
     script: &Script,
+    chances: Chances,
 ) -> Result<Option<Trace>, AllocError>
     requires name { blank.name ≡ L.name }
     requires parts { (blank.parts ≡ L.parts) × (blank.parts ≡ script.now.config.tasks) }
-    ensures race { IfOk result (λ kept. IsKept script.now kept) }
+    ensures race { IfOk result (λ kept. IsKept (is_mortal chances) script.now kept) }
     ensures few { IfOk result (λ kept. IfSome kept (λ trace. length trace.events.items ≤ MOST_EVENTS)) }
 {
-    let (shared, made, seats) = run_by::<L, _>(rt, alloc, blank, script)?;
-    keep(alloc, script, shared, made, seats)
+    let (shared, made, seats) = run_by::<L, _>(rt, alloc, blank, script, chances)?;
+    keep(alloc, script, chances, shared, made, seats)
 }
 
 // Opens a pool and makes all calls. Hands out the pool, whether all were made, and the seats.
@@ -78,12 +84,14 @@ fn run_by<L: Ledger + Send + Sync, R: Threads + Wait + Sync>(
     alloc: Global,
     blank: Blank,
     script: &Script,
+    chances: Chances,
 ) -> Result<(Shared<L>, bool, Vec<Seat<L>>), AllocError>
     requires name { blank.name ≡ L.name }
     requires parts { (blank.parts ≡ L.parts) × (blank.parts ≡ script.now.config.tasks) }
     ensures config { IfOk result (λ ran. ran.0.config ≡ script.now.config) }
     ensures count { IfOk result (λ ran. length ran.2.items ≡ script.now.config.tasks) }
-    ensures calls { IfOk result (λ ran. MatchBool ran.1 (All (HasMade script.now) ran.2.items) (SomeStrayed script.now ran.2.items)) }
+    ensures calls { IfOk result (λ ran. MatchBool ran.1 (All (HasMade (is_mortal chances) script.now) ran.2.items)
+        (SomeStrayed (is_mortal chances) script.now ran.2.items)) }
 {
     let (shared, seats) = Shared::<L>::new(alloc, blank, script.config)?;
     // No task has more calls than the script.
@@ -91,6 +99,10 @@ fn run_by<L: Ledger + Send + Sync, R: Threads + Wait + Sync>(
         from: 0,
         most: script.calls.len(),
     };
-    let (made, seats) = make_range(rt, alloc, &shared, script, all, seats)?;
+    let track = Track {
+        shared: &shared,
+        chances,
+    };
+    let (made, seats) = make_range(rt, alloc, &track, script, all, seats)?;
     Ok((shared, made, seats))
 }

@@ -1,5 +1,8 @@
-//! What the threads of a race go by: they begin together, and let others go first.
-use hp_base::Task;
+//! What the threads of a race go by: they begin together, let others go first, and draw which steps are denied and who is killed.
+ghost use Rattle.std.specs.Prelude.{◌||◌, nat_lt};
+
+use crate::chances::Draws;
+use hp_base::{Config, Task};
 use hp_machine::Phase;
 use hp_shared::Gate;
 use std::sync::atomic::{AtomicUsize, Ordering};
@@ -36,15 +39,25 @@ impl StartingLine {
     }
 }
 
-/// Between two holds others go first, where they can.
-impl Gate for StartingLine {
-    ghost may_answer = { λ line phase answer. answer };
+/// What one thread goes by behind the start.
+#[derive(Drop)]
+pub(crate) struct Course {
+    pub(crate) draws: Draws,
+    /// The pool's sizes.
+    pub(crate) config: Config,
+}
+
+/// Between two holds others go first, where they can. A step is denied only where some may be.
+impl Gate for Course {
+    ghost use Rattle.std.specs.Prelude.{◌||◌, nat_lt};
+
+    ghost may_answer = { λ course phase answer. answer || nat_lt 0 course.draws.deny };
 
     fn between(&self, _task: Task, _phase: Phase) {
         thread::yield_now();
     }
 
     fn grant(&self, _task: Task, _phase: Phase) -> bool {
-        true
+        self.draws.grants()
     }
 }

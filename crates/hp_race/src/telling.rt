@@ -1,11 +1,13 @@
 //! What is told of a pool at the end of a race.
 ghost use Rattle.std.specs.Prelude.{◌≡◌, ◌≢◌, ◌≤◌, IfOk, IfSome, MatchBool, All, None, length, take};
 ghost use Rattle.hp_shared.specs.Journal.{events_of};
+ghost use Rattle.hp_race.specs.Calls.{is_mortal};
 ghost use Rattle.hp_race.specs.Racers.{HasMade, SomeStrayed};
 ghost use Rattle.hp_race.specs.Parts.{IsAgain, IsVerdictOnParts};
 ghost use Rattle.hp_race.specs.Races.{Counts, IsKept, IsKeptOf, IsTold, IsToldOfRefused, IsVerdictOn};
 
 use crate::again::Again;
+use crate::chances::Chances;
 use crate::line::{Race, Verdict};
 use hp_base::Event;
 use hp_core::Tally;
@@ -95,14 +97,16 @@ pub(crate) fn tell<L: Ledger, R: Wait>(
     rt: &R,
     alloc: Global,
     script: &Script,
+    chances: Chances,
     shared: Shared<L>,
     made: bool,
     seats: Vec<Seat<L>>,
 ) -> Result<Race, AllocError>
     requires config { shared.config ≡ script.now.config }
     requires count { length seats.items ≡ script.now.config.tasks }
-    requires calls { MatchBool made (All (HasMade script.now) seats.items) (SomeStrayed script.now seats.items) }
-    ensures { IfOk result (λ race. IsTold script.now race) }
+    requires calls { MatchBool made (All (HasMade (is_mortal chances) script.now) seats.items)
+        (SomeStrayed (is_mortal chances) script.now seats.items) }
+    ensures { IfOk result (λ race. IsTold (is_mortal chances) script.now race) }
 {
     let tally = shared.tally(rt);
     match shared.close(alloc, seats) {
@@ -133,14 +137,16 @@ fn front(entries: &[Entry]) -> &[Entry]
 pub(crate) fn keep<L: Ledger>(
     alloc: Global,
     script: &Script,
+    chances: Chances,
     shared: Shared<L>,
     made: bool,
     seats: Vec<Seat<L>>,
 ) -> Result<Option<Trace>, AllocError>
     requires config { shared.config ≡ script.now.config }
     requires count { length seats.items ≡ script.now.config.tasks }
-    requires calls { MatchBool made (All (HasMade script.now) seats.items) (SomeStrayed script.now seats.items) }
-    ensures race { IfOk result (λ kept. IsKept script.now kept) }
+    requires calls { MatchBool made (All (HasMade (is_mortal chances) script.now) seats.items)
+        (SomeStrayed (is_mortal chances) script.now seats.items) }
+    ensures race { IfOk result (λ kept. IsKept (is_mortal chances) script.now kept) }
     ensures few { IfOk result (λ kept. IfSome kept (λ trace. length trace.events.items ≤ MOST_EVENTS)) }
 {
     match shared.close(alloc, seats) {

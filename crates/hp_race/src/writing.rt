@@ -3,12 +3,14 @@ ghost use Rattle.std.specs.Prelude.{◌≡◌, [], OnOk, IfErr, IfOk, string_byt
 ghost use Rattle.std.specs.Int.NonZero.{non_zero_u32_get};
 ghost use Rattle.std.specs.Io.KnownBytes.{Appends};
 ghost use Rattle.std.specs.Option.{option_map};
+ghost use Rattle.hp_race.specs.Calls.{is_mortal};
 ghost use Rattle.hp_race.specs.Parts.{IsToldBy};
 ghost use Rattle.hp_race.specs.Text.{run_line};
 ghost use Rattle.hp_race.specs.Writing.{WroteRaces, WroteSomeRaces, WroteSomeTrace, WroteTrace, is_closed};
 ghost use Rattle.hp_text.specs.Streams.{TellsWrites};
 ghost use Rattle.hp_text.specs.Writing.{IsWriteFault, Wrote};
 
+use crate::chances::Chances;
 use crate::line::{Race, Verdict};
 use crate::parts::race_in_parts;
 use crate::racing::{race, race_trace};
@@ -46,13 +48,14 @@ fn race_once<R: Threads + Wait + Sync>(
     rt: &R,
     alloc: Global,
     script: &Script,
+    chances: Chances,
     cut: Option<NonZeroU32>,
 ) -> Result<Race, AllocError>
-    ensures { IfOk result (λ race. IsToldBy script.now (option_map non_zero_u32_get cut) race) }
+    ensures { IfOk result (λ race. IsToldBy (is_mortal chances) script.now (option_map non_zero_u32_get cut) race) }
 {
     match cut {
-        None => race(rt, alloc, script),
-        Some(most) => race_in_parts(rt, alloc, script, most),
+        None => race(rt, alloc, script, chances),
+        Some(most) => race_in_parts(rt, alloc, script, chances, most),
     }
 }
 
@@ -62,19 +65,21 @@ pub fn write_races<R: Threads + Wait + Sync, W: Sink>(
     rt: &R,
     alloc: Global,
     script: &Script,
+    chances: Chances,
     cut: Option<NonZeroU32>,
     times: u32,
     writer: &mut W,
 ) -> Result<bool, ReplayFault>
-    ensures ok { IfOk result (λ closed. WroteRaces script.now (option_map non_zero_u32_get cut) times closed
+    ensures ok { IfOk result (λ closed. WroteRaces (is_mortal chances) script.now (option_map non_zero_u32_get cut) times closed
         (W.contents writer.old) (W.contents writer.new)) }
     ensures err { IfErr result (λ fault. IsWriteFault fault
-        × WroteSomeRaces script.now (option_map non_zero_u32_get cut) times (W.contents writer.old) (W.contents writer.new)) }
+        × WroteSomeRaces (is_mortal chances) script.now (option_map non_zero_u32_get cut) times
+        (W.contents writer.old) (W.contents writer.new)) }
     ensures writes { TellsWrites result (W.failures writer.old) (W.failures writer.new) }
 {
     let mut closed = true;
     for run in 0..times {
-        let ended = race_once(rt, alloc, script, cut)?;
+        let ended = race_once(rt, alloc, script, chances.of_race(run), cut)?;
         write_race(alloc, run, ended, writer)?;
         closed &= is_closed(&ended);
     }
@@ -87,14 +92,15 @@ pub fn write_race_trace<R: Threads + Wait + Sync, W: Sink>(
     rt: &R,
     alloc: Global,
     script: &Script,
+    chances: Chances,
     writer: &mut W,
 ) -> Result<bool, ReplayFault>
-    ensures ok { IfOk result (λ closed. WroteTrace script.now closed (W.contents writer.old) (W.contents writer.new)) }
+    ensures ok { IfOk result (λ closed. WroteTrace (is_mortal chances) script.now closed (W.contents writer.old) (W.contents writer.new)) }
     ensures err { IfErr result (λ fault. IsWriteFault fault
-        × WroteSomeTrace script.now (W.contents writer.old) (W.contents writer.new)) }
+        × WroteSomeTrace (is_mortal chances) script.now (W.contents writer.old) (W.contents writer.new)) }
     ensures writes { TellsWrites result (W.failures writer.old) (W.failures writer.new) }
 {
-    let Some(trace) = race_trace(rt, alloc, script)? else {
+    let Some(trace) = race_trace(rt, alloc, script, chances)? else {
         return Ok(false);
     };
     write_trace(alloc, &trace, writer)?;

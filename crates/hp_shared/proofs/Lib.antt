@@ -8,5 +8,6 @@ pub mod Lists
 pub mod Mapped
 pub mod Runs
 pub mod Shares
+pub mod Stances
 pub mod Verdicts
 pub mod Waking

@@ -1,8 +1,9 @@
 -- Who may go on behind a hold.
-use Rattle.std.proofs.Common.{◌≡◌, ℕ, ◌<◌, ◌⊎◌, inl, inr, refl, sym, ap, ◌∙◌, subst, arith, true≢false}
-use Rattle.std.specs.Prelude.{Bool, true, false, ◌&&◌, Option, None, Some}
+use Rattle.std.proofs.Common.{◌≡◌, ℕ, ◌+◌, ◌<◌, ◌⊎◌, List, inl, inr, refl, sym, ap, ◌∙◌, subst, arith, true≢false}
+use Rattle.std.specs.Prelude.{Bool, true, false, ◌&&◌, Option, None, Some, OnErr, OnOk, Result, Ok, Err}
 use Rattle.std.specs.Option.{option_map}
 use Rattle.hp_base.specs.declared.event.Event.{Event}
+use Rattle.hp_base.specs.declared.event.Event.TheVariants.{Begin, Step, Kill, Resize}
 use Rattle.hp_machine.specs.Events.{IsReached, word_of}
 use Rattle.hp_machine.specs.State as machine
 use Rattle.hp_machine.specs.declared.call.Call.{Call}
@@ -12,9 +13,16 @@ use Rattle.hp_core.specs.Passing.{WaitOn, may_release, task_may_leave}
 use Rattle.hp_core.specs.Readers.{config_of, phase_of}
 use Rattle.hp_core.specs.Runs.{IsOfConfig, Row}
 use Rattle.hp_core.specs.State.{CoreState, as_state}
+use Rattle.hp_core.specs.Waiting.{WaitsFor}
 use Rattle.hp_core.proofs.Holds.{waits_on}
+use Rattle.hp_shared.specs.Calls.{IsOwn}
+use Rattle.hp_shared.specs.Cutting.{IsCut}
 use Rattle.hp_shared.specs.Journal.{is_made}
-use Rattle.hp_shared.specs.States.{PoolState}
+use Rattle.hp_shared.specs.States.{PoolState, SeatState}
+use Rattle.hp_shared.specs.Waking.{AreHeldUpBut, AreWatched, NoneCalled, OthersWaitOn}
+use Rattle.hp_shared.specs.declared.cutting.Part.{Part}
+use Rattle.hp_shared.specs.declared.fault.CutFault.{CutFault}
+use Rattle.hp_shared.specs.declared.waiting_room.Stance.{Stance}
 
 -- a task that isn't there leaves nothing
 pub leaves_nothing : (s : CoreState) (t : ℕ) → IsOfConfig s → CallersLive (as_state s) → ((t ≡ 0) ⊎ ((config_of s).tasks < t))
@@ -44,3 +52,28 @@ still_waiting old new event outcome reached row same none = by (may_release old.
     by false made e f g = waits_on old.core new.core event outcome reached row e
     by true false e f g = subst (λ (p : PoolState). WaitOn event old.core p.core) (sym (same f)) (λ t h other waits. waits)
     by true true e f g = absurd (true≢false g)
+
+-- so does each but the task by whose seat the hold was made, be it killed or not
+pub others_waiting : (own : ℕ) (old new : PoolState) (event : Event) (outcome : Outcome) → IsReached (as_state old.core)
+    → Row old.core event outcome new.core → (is_made outcome ≡ false → new ≡ old) → IsOwn own event
+    → (may_release old.core event && is_made outcome) ≡ false → OthersWaitOn own old.core new.core
+others_waiting own old new (Begin t op) outcome reached row same is none task holder other =
+    still_waiting old new (Begin t op) outcome reached row same none task holder (λ at. other (at ∙ is))
+others_waiting own old new (Step t grant) outcome reached row same is none task holder other =
+    still_waiting old new (Step t grant) outcome reached row same none task holder (λ at. other (at ∙ is))
+others_waiting own old new (Kill t) outcome reached row same is none task holder other =
+    subst (λ (p : PoolState). WaitsFor p.core task (Some holder)) (sym (same none))
+others_waiting own old new (Resize frames) outcome reached row same is none task holder other =
+    still_waiting old new (Resize frames) outcome reached row same none task holder (λ at. at)
+
+-- so where whoever sleeps was held up, all but that task are
+pub held_up_still : (own : ℕ) (old new : CoreState) (stances : List Stance) → AreWatched old stances → OthersWaitOn own old new
+    → NoneCalled stances → AreHeldUpBut own new stances
+held_up_still own old new stances watched waiting none place other asleep =
+    let holder = watched none place asleep in (holder.0, waiting (place + 1) holder.0 other holder.1)
+
+-- a cut leaves the core
+pub cut_core : (cut : Result Part CutFault) (old new : PoolState) (seats after : List SeatState) → OnOk cut (IsCut old seats new)
+    → OnErr cut ((new ≡ old) × (after ≡ seats)) → new.core ≡ old.core
+cut_core (Ok part) old new seats after made same = made.core
+cut_core (Err fault) old new seats after made same = ap (λ (p : PoolState). p.core) same.0

@@ -36,6 +36,15 @@ is_ended Marked = false
 is_ended (Resized frames) = false
 is_ended (Refused why) = false
 
+abbrev pub is_blocked : Outcome → Bool
+is_blocked Begun = false
+is_blocked (Moved phase) = false
+is_blocked (Blocked holder) = true
+is_blocked (Ended answer) = false
+is_blocked Marked = false
+is_blocked (Resized frames) = false
+is_blocked (Refused why) = false
+
 abbrev pub count_begun : List Entry → ℕ
 count_begun entries = count_by (λ (e : Entry). is_begun e.outcome) entries
 

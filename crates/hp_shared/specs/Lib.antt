@@ -6,3 +6,4 @@ pub mod Seats
 pub mod Closing
 pub mod Cutting
 pub mod Replies
+pub mod Waking

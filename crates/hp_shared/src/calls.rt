@@ -1,7 +1,9 @@
 //! A whole call on a running pool, hold by hold.
-ghost use Rattle.std.specs.Prelude.{◌≡◌, IfOk, IfErr, true, false, Ok};
-ghost use Rattle.hp_shared.specs.Calls.{Gained, AllMoved, AreAnswered, in_call, phase_of};
+ghost use Rattle.std.specs.Prelude.{◌≡◌, ℕ, IfOk, IfErr, true, false, Ok};
+ghost use Rattle.hp_shared.specs.Calls.{Gained, AllMoved, AreAnswered, in_call, is_blocked, phase_of};
+ghost use Rattle.hp_shared.specs.Journal.{IsOutcomeOf, IsRowOf};
 ghost use Rattle.hp_shared.specs.Replies.{Steps, IsCall, IsResumed, StoppedCall};
+ghost use Rattle.hp_shared.specs.States.{seat_with};
 
 use crate::fault::{CallFault, Reply};
 use crate::seat::Seat;
@@ -108,13 +110,39 @@ fn go_on<L: Ledger, H: Hold<L>, G: Gate, R: Wait>(
     let task = seat.task();
     'steps: for _ in rt.forever() {
         let grant = gate.grant(task, seat.phase());
-        match hold.attempt(rt, seat, Event::Step(task, grant)) {
+        match step(hold, rt, seat, grant) {
             Ok(Outcome::Moved(phase)) => gate.between(task, phase),
-            Ok(Outcome::Blocked(_)) => hold.pause(rt, seat),
             Ok(Outcome::Ended(answer)) => return Ok(Reply::Ended(answer)),
             Ok(Outcome::Refused(refusal)) => return Ok(Reply::Refused(refusal)),
-            Ok(Outcome::Begun | Outcome::Marked | Outcome::Resized(_)) => unreachable!(),
+            Ok(Outcome::Begun | Outcome::Blocked(_) | Outcome::Marked | Outcome::Resized(_)) =>
+                unreachable!(),
             Err(_) => return Err(CallFault::Memory { begun: true }),
+        }
+    }
+    unreachable!()
+}
+
+// One step, granted or denied. While another task's call holds it up it waits: whoever was called makes the step at once, since
+// others may wait for the same.
+fn step<L: Ledger, H: Hold<L>, R: Wait>(
+    hold: &H,
+    rt: &R,
+    seat: &mut Seat<L>,
+    grant: bool,
+) -> Result<Outcome, CallFault>
+    ensures kind { IfOk result (λ outcome. IsOutcomeOf (Event.Step seat.old.task grant) outcome) }
+    ensures free { IfOk result (λ outcome. is_blocked outcome ≡ false) }
+    ensures row { IfOk result (λ outcome. IsRowOf (Event.Step seat.old.task grant) outcome) }
+    ensures seat { IfOk result (λ outcome. (position : ℕ) ×
+        (seat.new ≡ seat_with seat.old position (Event.Step seat.old.task grant) outcome)) }
+    ensures err { IfErr result (λ fault. (fault ≡ CallFault.Memory false) × (seat.new ≡ seat.old)) }
+{
+    let event = Event::Step(seat.task(), grant);
+    let lent = &event;
+    for _ in rt.forever() {
+        match hold.attempt(rt, seat, *lent) {
+            Ok(Outcome::Blocked(_)) => hold.pause(rt, seat),
+            held => return held,
         }
     }
     unreachable!()

@@ -31,9 +31,11 @@ impl<'a, L: Ledger> Halting<'a, L> {
 
     // Under the lock, so that nobody who found it unset begins to wait behind the call to all who wait.
     fn halt<R: Wait>(&self, rt: &R) {
-        let held = self.shared.pool.lock(rt);
+        let held = self.shared.room.lock(rt);
         self.halted.store(true, Ordering::SeqCst);
-        self.shared.released.notify_all();
+        for waking in &self.shared.wakings {
+            waking.notify_all();
+        }
         drop(held);
     }
 }
@@ -58,10 +60,20 @@ impl<'a, L: Ledger> Hold<L> for Halting<'a, L> {
     fn pause<R: Wait>(&self, rt: &R, seat: &Seat<L>) {
         let task = seat.task();
         let halted = &self.halted;
-        self.shared.released.wait_while(
+        let Some(waking) = self.shared.waking(task) else {
+            return;
+        };
+        let mut room = self.shared.room.lock(rt);
+        room.lie_down(task);
+        let mut room = waking.wait_while(
             rt,
-            self.shared.pool.lock(rt),
-            |pool| !halted.load(Ordering::SeqCst) && pool.holds_up(task),
+            room,
+            |room| !halted.load(Ordering::SeqCst) && room.is_asleep(task),
         );
+        if halted.load(Ordering::SeqCst) {
+            let called = room.give_up(task);
+            drop(room);
+            self.shared.wake(called);
+        }
     }
 }

@@ -17,6 +17,7 @@ pub mod pool;
 mod same;
 pub mod seat;
 pub mod shared;
+mod waiting_room;
 
 pub use calls::{Gate, Open, call, resume};
 pub use cutting::Part;

@@ -13,6 +13,7 @@ ghost use Rattle.hp_shared.specs.Closing.{ClosesWith, entries_of};
 ghost use Rattle.hp_shared.specs.Journal.{gained, is_made, IsOutcomeOf, Follows, IsFromOpening, IsCameTo, Interleaves, FirstFailsAt};
 ghost use Rattle.hp_shared.specs.Seats.{lists_of};
 ghost use Rattle.hp_shared.specs.States.{PoolState, next, pool_with, seat_with, tally_of};
+ghost use Rattle.hp_shared.specs.Waking.{OthersWaitOn};
 ghost use Rattle.hp_shared.specs.declared.entry.Entry.{Entry};
 
 use crate::closing::join_shares;
@@ -166,6 +167,7 @@ impl<L: Ledger> Pool<L> {
         ensures kind { IfOk result (λ held. IsOutcomeOf event held.0) }
         ensures released { IfOk result (λ held. held.1 ≡ (may_release self.old.core event && is_made held.0)) }
         ensures waiting { IfOk result (λ held. held.1 ≡ false → WaitOn event self.old.core self.new.core) }
+        ensures others { IfOk result (λ held. held.1 ≡ false → OthersWaitOn seat.old.task self.old.core self.new.core) }
         ensures err { OnErr result ((self.new ≡ self.old) × (seat.new ≡ seat.old)) }
     {
         self.always();

@@ -1,4 +1,4 @@
-//! The running pool: one lock, one condition variable, and a seat for each task.
+//! The running pool: one lock, and a seat and a condition variable for each task.
 ghost use Rattle.std.specs.Prelude.{◌≡◌, ◌+◌, ◌<◌, ◌≤◌, ℕ, length, map, IfOk, IfErr, OnOk, OnErr, MatchOption, true, false};
 ghost use Rattle.std.specs.Prelude.{IfSome, Some, None, [], slice_get};
 ghost use Rattle.hp_base.specs.Text.{sizes};
@@ -18,6 +18,7 @@ use crate::fault::{CallFault, CloseFault, CutFault};
 use crate::pool::{Closed, Pool};
 use crate::same::same_sizes;
 use crate::seat::Seat;
+use crate::waiting_room::{WaitingRoom, place_of};
 use hp_base::{Config, Event, Task};
 use hp_core::{Outcome, Tally};
 use std::alloc::{AllocError, Global};
@@ -29,9 +30,9 @@ use std::sync::{Condvar, Mutex, Wait};
 pub struct Shared<L: Ledger> {
     /// The sizes of the pool, as it was opened.
     pub(crate) config: Config,
-    pub(crate) pool: Mutex<Pool<L>>,
-    // told where a task that waits may go on
-    pub(crate) released: Condvar,
+    pub(crate) room: Mutex<WaitingRoom<L>>,
+    // one for each task, by which it is called; that of task 1 comes first
+    pub(crate) wakings: Vec<Condvar>,
 }
 
 /// Why a pool wasn't closed, with the pool and the seats. After `Disagree` and `OtherSizes` they aren't handed back.
@@ -67,19 +68,22 @@ impl<L: Ledger> Hold<L> for Shared<L> {
         seat: &mut Seat<L>,
         event: Event,
     ) -> Result<Outcome, CallFault> {
-        let Ok((outcome, is_released)) = self.pool.lock(rt).hold(seat, event) else {
-            return Err(CallFault::Memory { begun: false });
-        };
-        if is_released {
-            self.released.notify_all();
+        let (held, called) = self.room.lock(rt).hold(seat, event);
+        self.wake(called);
+        match held {
+            Ok(outcome) => Ok(outcome),
+            Err(AllocError) => Err(CallFault::Memory { begun: false }),
         }
-        Ok(outcome)
     }
 
     fn pause<R: Wait>(&self, rt: &R, seat: &Seat<L>) {
         let task = seat.task();
-        self.released
-            .wait_while(rt, self.pool.lock(rt), |pool| pool.holds_up(task));
+        let Some(waking) = self.waking(task) else {
+            return;
+        };
+        let mut room = self.room.lock(rt);
+        room.lie_down(task);
+        waking.wait_while(rt, room, |room| room.is_asleep(task));
     }
 }
 
@@ -99,33 +103,46 @@ impl<L: Ledger> Shared<L> {
     {
         let (book, mut rest) = blank.open::<L>();
         let pool = Pool::new(alloc, config, book)?;
+        let wakings = wakings(alloc, config.tasks)?;
         let mut seats = Vec::new(alloc);
         for number in 0..config.tasks {
             let task = Task::new(number + 1);
             let seat = Seat::new(alloc, task, rest.split_off(1, 0));
             seats.push(seat)?;
         }
-        Ok((Shared::opened(config, pool), seats))
+        Ok((Shared::opened(config, pool, wakings), seats))
     }
 
     // A new pool under its lock. It is the opening of that config: no clause can say so later, of what a lock holds.
-    fn opened(config: Config, pool: Pool<L>) -> Shared<L>
+    fn opened(config: Config, pool: Pool<L>, wakings: Vec<Condvar>) -> Shared<L>
         requires opening { IsOpening config pool.core }
         requires journal { (pool.first ≡ 0) × (pool.journal ≡ []) }
         ensures { result.config ≡ config }
     {
-        Shared::locked(config, pool, Condvar::new())
+        Shared::locked(config, pool, wakings)
     }
 
     // A pool under a lock, beside its sizes.
-    fn locked(config: Config, pool: Pool<L>, released: Condvar) -> Shared<L>
+    fn locked(config: Config, pool: Pool<L>, wakings: Vec<Condvar>) -> Shared<L>
         requires { config_of pool.core ≡ sizes config }
         ensures { result.config ≡ config }
     {
         Shared {
             config,
-            pool: Mutex::new(pool),
-            released,
+            room: Mutex::new(WaitingRoom::new(pool)),
+            wakings,
+        }
+    }
+
+    // By what the task is called.
+    pub(crate) fn waking(&self, task: Task) -> Option<&Condvar> {
+        self.wakings.get(place_of(task)?)
+    }
+
+    // Wakes the task that was called, if one was.
+    pub(crate) fn wake(&self, called: Option<Task>) {
+        if let Some(waking) = called.and_then(|task| self.waking(task)) {
+            waking.notify_all();
         }
     }
 
@@ -165,7 +182,7 @@ impl<L: Ledger> Shared<L> {
     pub fn tally<R: Wait>(&self, rt: &R) -> Tally
         ensures { (core : CoreState) × IsCameTo core × (result ≡ tally_of core) }
     {
-        self.pool.lock(rt).tally()
+        self.room.lock(rt).pool.tally()
     }
 
     /// Cuts the journal, in one hold: see `Pool::cut`. It hands out the entries since the last cut, which interleave the
@@ -181,9 +198,7 @@ impl<L: Ledger> Shared<L> {
         ensures refused { IfErr result (λ fault. MayRefuseCut seats.old fault) }
         ensures err { OnErr result (seats.new ≡ seats.old) }
     {
-        let mut pool = self.pool.lock(rt);
-        pool.always();
-        pool.cut(alloc, seats)
+        self.room.lock(rt).cut(alloc, seats)
     }
 
     /// Ends the pool, where the seats are all there and their lists make up one run of a pool of this config. It asks first whether
@@ -208,10 +223,10 @@ impl<L: Ledger> Shared<L> {
         }
         let Shared {
             config,
-            pool,
-            released,
+            room,
+            wakings,
         } = self;
-        let pool = pool.into_inner();
+        let pool = room.into_inner().into_pool();
         if !same_sizes(&pool.core.config(), &config) {
             return Err(CloseRefused {
                 fault: CloseFault::OtherSizes,
@@ -220,13 +235,22 @@ impl<L: Ledger> Shared<L> {
         }
         match pool.close_seated(alloc, seats) {
             Ok(closed) => Ok(closed),
-            Err(kept) => Err(reopened(config, released, kept)),
+            Err(kept) => Err(reopened(config, wakings, kept)),
         }
     }
 }
 
+// A condition variable for each task.
+fn wakings(alloc: Global, tasks: u32) -> Result<Vec<Condvar>, AllocError> {
+    let mut wakings = Vec::with_capacity(alloc, tasks as usize)?;
+    for _ in 0..tasks {
+        wakings.push(Condvar::new())?;
+    }
+    Ok(wakings)
+}
+
 // Puts a pool that wasn't closed under its lock again, if it is there.
-fn reopened<L: Ledger>(config: Config, released: Condvar, kept: KeptOpen<L>) -> CloseRefused<L>
+fn reopened<L: Ledger>(config: Config, wakings: Vec<Condvar>, kept: KeptOpen<L>) -> CloseRefused<L>
     requires { IfSome kept.back (λ back. config_of back.0.core ≡ sizes config) }
     ensures fault { result.fault ≡ kept.fault }
     ensures back { MatchOption kept.back (result.back ≡ None)
@@ -239,7 +263,7 @@ fn reopened<L: Ledger>(config: Config, released: Condvar, kept: KeptOpen<L>) -> 
     let (pool, seats) = back;
     CloseRefused {
         fault,
-        back: Some((Shared::locked(config, pool, released), seats)),
+        back: Some((Shared::locked(config, pool, wakings), seats)),
     }
 }
 

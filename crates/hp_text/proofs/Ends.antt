@@ -1,5 +1,6 @@
 -- Where a line ends: at the first byte 10.
-use Rattle.std.proofs.Common.{◌≡◌, ℕ, ◌<◌, true, false, List, [], ◌∷◌, ◌++◌, length, refl, ap, ◌∙◌, arith}
+use Rattle.std.proofs.Common.{◌≡◌, ℕ, zero, suc, ◌<◌, ◌≤◌, true, false, List, [], ◌∷◌, ◌++◌, length, take, refl, ap, subst, ◌∙◌, arith}
+use Rattle.std.specs.Prelude.{Bool, not, ◌==◌, slice_index}
 use Rattle.std.specs.List.{list_all}
 use Rattle.std.proofs.lemmas.Bool.{and_parts, and_from}
 use Rattle.std.proofs.lemmas.List.Folds.{list_all-append}
@@ -43,3 +44,26 @@ no_line_within (x ∷ a) xs [] ys p lt e =
 no_line_within (x ∷ a) xs (y ∷ b) ys p lt e =
     let others : a ++ xs ≡ b ++ (10 ∷ ys) = cc in
     no_line_within a xs b ys (parts x a p).1 (omega arith) others
+
+-- where no place before has an end, no line ends
+pub none_before : (xs : List ℕ) (end : ℕ) → ((k : ℕ) → 0 ≤ k → k < end → (slice_index xs k == 10) ≡ true → ⊥) → HasNoEnd (take end xs)
+none_before [] end h = by end
+  where
+    by : (n : ℕ) → HasNoEnd (take n [])
+    by zero = refl
+    by (suc n) = refl
+none_before (x ∷ xs) zero h = refl
+none_before (x ∷ xs) (suc end) h =
+    let here : (x == 10) ≡ false = no_test (x == 10) (λ e. h 0 (omega arith) (omega arith) e) in
+    and_from _ _ (ap not here) (none_before xs end (λ k low lt e. h (suc k) (omega arith) (omega (arith, lt)) e))
+  where
+    no_test : (b : Bool) → (b ≡ true → ⊥) → b ≡ false
+    no_test false h = refl
+    no_test true h = absurd (h refl)
+
+pub none_at_all : (xs : List ℕ) → ((k : ℕ) → 0 ≤ k → k < length xs → (slice_index xs k == 10) ≡ true → ⊥) → HasNoEnd xs
+none_at_all xs h = subst (λ (x : List ℕ). HasNoEnd x) (take_all xs) (none_before xs (length xs) h)
+  where
+    take_all : (xs : List ℕ) → take (length xs) xs ≡ xs
+    take_all [] = refl
+    take_all (x ∷ xs) = ap (λ (ys : List ℕ). x ∷ ys) (take_all xs)

@@ -21,3 +21,7 @@ pub mod Drafts
 pub mod WrittenTraces
 pub mod Calls
 pub mod ScriptFaults
+pub mod ScriptReadings
+pub mod ScriptTakings
+pub mod ScriptsOnce
+pub mod PlainScripts

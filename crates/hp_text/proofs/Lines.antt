@@ -14,7 +14,7 @@ use Rattle.hp_base.specs.declared.event.Event.{Event}
 use Rattle.hp_base.specs.declared.event.Event.TheVariants.{Begin, Step, Kill, Resize}
 use Rattle.hp_text.specs.Fits.{IsShort, OpFits, EventFits}
 use Rattle.hp_text.specs.Reading.{◌>>=◌, after_word, number_at, field_at, ended, last_at, range_at, pair_at, option_or, behind}
-use Rattle.hp_text.specs.Reading.{range_op_at, plain_op_at, op_at, event_at, last_field_at, quota_at, sizes_at, header_at, limit}
+use Rattle.hp_text.specs.Reading.{range_op_at, plain_op_at, op_at, event_at, last_field_at, quota_at, sizes_at, header_at, header_behind, limit}
 use Rattle.hp_text.specs.Reading.{word_limit}
 use Rattle.hp_text.proofs.Options.{none_some, some_is}
 use Rattle.hp_text.proofs.Numbers.{chosen, bind_some, number_takes, number_again, word_takes, Stops}
@@ -35,7 +35,7 @@ field_again : (most n : ℕ) (rest : List ℕ) → most < 2 ^ 64 → n ≤ most 
 unfolding field_at
 field_again most n rest fits le stops = number_again most n rest fits le stops
 
-last_takes : (bytes : List ℕ) (n : ℕ) → last_at bytes ≡ Some n → (bytes ≡ decimal n) × IsShort n
+pub last_takes : (bytes : List ℕ) (n : ℕ) → last_at bytes ≡ Some n → (bytes ≡ decimal n) × IsShort n
 unfolding last_at
 last_takes bytes n e =
     let a = bind_some (number_at limit bytes) (λ n. ended n.0 n.1) n e in
@@ -43,7 +43,7 @@ last_takes bytes n e =
     let b = ended_takes a.0.0 a.0.1 n a.2 in
     (t.0 ∙ rw (b.0, b.1) (append-nil (decimal n)), rw (← b.1) (omega (arith, t.1)))
 
-last_again : (n : ℕ) → IsShort n → last_at (decimal n) ≡ Some n
+pub last_again : (n : ℕ) → IsShort n → last_at (decimal n) ≡ Some n
 unfolding last_at
 last_again n fits =
     let read : number_at limit (decimal n) ≡ Some (n, []) =
@@ -103,7 +103,7 @@ pair_again most a b high a_fits b_fits =
 
 -- ---- operations
 
-behind_some : {A : Type 0} (word bytes : List ℕ) (read : List ℕ → Option A) (other : Option A) (y : A)
+pub behind_some : {A : Type 0} (word bytes : List ℕ) (read : List ℕ → Option A) (other : Option A) (y : A)
     → behind word bytes read other ≡ Some y → ((rest : List ℕ) × (bytes ≡ word ++ rest) × (read rest ≡ Some y)) ⊎ (other ≡ Some y)
 behind_some {A} word bytes read other y e = by (after_word word bytes) refl e
   where
@@ -329,7 +329,16 @@ quota_takes (b ∷ bytes) quota e =
     let some : Some a.0 ≡ quota = some_is _ _ a.2 in
     last_field_takes (b ∷ bytes) a.0 a.1 ∙ ap quota_field some
 
-sizes_takes : (bytes : List ℕ) (s : Sizes) → sizes_at bytes ≡ Some s → codes "pool " ++ bytes ≡ sizes_text s
+-- the numbers of a header, behind its word
+abbrev pub numbers : Sizes → List ℕ
+numbers s = decimal s.frames ++ (field s.files ++ (field s.slots ++ (field s.tasks ++ quota_field s.quota)))
+
+-- they are the same, however they are put together
+pub numbers_are : (s : Sizes)
+    → (((decimal s.frames ++ field s.files) ++ field s.slots) ++ field s.tasks) ++ quota_field s.quota ≡ numbers s
+numbers_are s = five_parts (decimal s.frames) (field s.files) (field s.slots) (field s.tasks) (quota_field s.quota)
+
+sizes_takes : (bytes : List ℕ) (s : Sizes) → sizes_at bytes ≡ Some s → bytes ≡ numbers s
 unfolding sizes_at
 sizes_takes bytes s e =
     let a = bind_some (number_at limit bytes)
@@ -359,21 +368,28 @@ sizes_takes bytes s e =
     files.0 ∙ ap (λ (t : List ℕ). field b.0.0 ++ t) third in
     let whole : bytes ≡ decimal a.0.0 ++ (field b.0.0 ++ (field d.0.0 ++ (field f.0.0 ++ quota_field g.0))) =
     frames.0 ∙ ap (λ (t : List ℕ). decimal a.0.0 ++ t) second in
-    subst (λ (s : Sizes). codes "pool " ++ bytes ≡ sizes_text s) (some_is _ _ g.2)
-    (ap (λ (t : List ℕ). codes "pool " ++ t)
-    (whole ∙ sym (five_parts (decimal a.0.0) (field b.0.0) (field d.0.0) (field f.0.0) (quota_field g.0))))
+    subst (λ (s : Sizes). bytes ≡ numbers s) (some_is _ _ g.2) whole
 
-pub header_takes : (bytes : List ℕ) (s : Sizes) → header_at bytes ≡ Some s → SpellsHeader bytes s
-unfolding header_at
-header_takes bytes s e =
-    let a = bind_some (after_word (codes "pool ") bytes)
-    (λ text. sizes_at text >>= λ s. cond (are_sizes s) (Some s) None) s e in
+-- a header behind any word
+pub behind_takes : (word bytes : List ℕ) (s : Sizes) → header_behind word bytes ≡ Some s
+    → (bytes ≡ word ++ numbers s) × (are_sizes s ≡ true)
+unfolding header_behind
+behind_takes word bytes s e =
+    let a = bind_some (after_word word bytes) (λ text. sizes_at text >>= λ s. cond (are_sizes s) (Some s) None) s e in
     let b = bind_some (sizes_at a.0) (λ s. cond (are_sizes s) (Some s) None) s a.2 in
-    let whole : bytes ≡ sizes_text b.0 = word_takes (codes "pool ") bytes a.0 a.1 ∙ sizes_takes a.0 b.0 b.1 in
+    let whole : bytes ≡ word ++ numbers b.0 =
+    word_takes word bytes a.0 a.1 ∙ ap (λ (t : List ℕ). word ++ t) (sizes_takes a.0 b.0 b.1) in
     elim (chosen (are_sizes b.0) (Some b.0) None (Some s) b.2) [
-      | inl w ↦ subst (λ (s : Sizes). SpellsHeader bytes s) (some_is _ _ w.1) (whole, w.0)
+      | inl w ↦ subst (λ (s : Sizes). (bytes ≡ word ++ numbers s) × (are_sizes s ≡ true)) (some_is _ _ w.1) (whole, w.0)
       | inr w ↦ absurd (none_some w.1)
     ]
+
+-- that of a trace
+pub header_takes : (bytes : List ℕ) (s : Sizes) → header_at bytes ≡ Some s → SpellsHeader bytes s
+unfolding header_at header_behind
+header_takes bytes s e =
+    let t = behind_takes (codes "pool ") bytes s e in
+    (t.0 ∙ ap (λ (t : List ℕ). codes "pool " ++ t) (sym (numbers_are s)), t.1)
 
 last_field_again : (n : ℕ) → IsShort n → last_field_at (field n) ≡ Some n
 unfolding last_field_at
@@ -396,9 +412,9 @@ quota_stops : (quota : Option ℕ) → Stops (quota_field quota)
 quota_stops None = tt
 quota_stops (Some n) = refl
 
-pub header_again : (s : Sizes) → are_sizes s ≡ true → header_at (sizes_text s) ≡ Some s
-unfolding header_at sizes_at
-header_again s within =
+pub sizes_again : (s : Sizes) → are_sizes s ≡ true → sizes_at (numbers s) ≡ Some s
+unfolding sizes_at
+sizes_again s within =
     let both = and_parts _ _ within in
     let p = and_parts _ _ both.0 in
     let q = and_parts _ _ p.0 in
@@ -407,11 +423,23 @@ header_again s within =
     let files = leb-true s.files 16 (and_parts _ _ r.1).1 in
     let slots = leb-true s.slots 64 (and_parts _ _ q.1).1 in
     let tasks = leb-true s.tasks 64 (and_parts _ _ p.1).1 in
-    let regrouped = five_parts (decimal s.frames) (field s.files) (field s.slots) (field s.tasks) (quota_field s.quota) in
     let one = number_again limit s.frames (field s.files ++ (field s.slots ++ (field s.tasks ++ quota_field s.quota)))
     (omega arith) (omega arith) refl in
     let two = field_again limit s.files (field s.slots ++ (field s.tasks ++ quota_field s.quota)) (omega arith) (omega arith) refl in
     let three = field_again limit s.slots (field s.tasks ++ quota_field s.quota) (omega arith) (omega arith) refl in
     let four = field_again limit s.tasks (quota_field s.quota) (omega arith) (omega arith) (quota_stops s.quota) in
     let five = quota_again s.quota both.1 in
-    rw (regrouped, one, two, three, four, five, within) refl
+    rw (one, two, three, four, five) refl
+
+-- a header behind any word
+pub behind_again : (word bytes : List ℕ) (s : Sizes) → after_word word bytes ≡ Some (numbers s) → are_sizes s ≡ true
+    → header_behind word bytes ≡ Some s
+unfolding header_behind
+behind_again word bytes s found within = rw (found, sizes_again s within, within) refl
+
+-- that of a trace
+pub header_again : (s : Sizes) → are_sizes s ≡ true → header_at (sizes_text s) ≡ Some s
+unfolding header_at header_behind
+header_again s within =
+    ap header_at (ap (λ (t : List ℕ). codes "pool " ++ t) (numbers_are s))
+    ∙ behind_again (codes "pool ") (codes "pool " ++ numbers s) s refl within

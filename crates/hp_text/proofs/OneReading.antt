@@ -1,5 +1,5 @@
 -- Bytes have one reading: a trace, or a first bad line.
-use Rattle.std.proofs.Common.{◌≡◌, ℕ, suc, ◌+◌, ◌<◌, ◌≤◌, List, [], ◌∷◌, ◌++◌, length, Option, Some, refl, sym, ap, subst, ◌∙◌}
+use Rattle.std.proofs.Common.{◌≡◌, ℕ, suc, ◌+◌, ◌<◌, ◌≤◌, List, [], ◌∷◌, ◌++◌, length, refl, sym, ap, subst, ◌∙◌}
 use Rattle.std.proofs.Common.{arith, append_assoc, length-append, inl, inr, ◌⊎◌}
 use Rattle.std.specs.Prelude.{All}
 use Rattle.std.proofs.lemmas.List.{append-nil}
@@ -10,7 +10,7 @@ use Rattle.hp_text.specs.declared.fault.ReplayFault.{ReplayFault}
 use Rattle.hp_text.specs.declared.fault.ReplayFault.TheVariants.{BadLine, BadHeader, Read, Write, Memory}
 use Rattle.hp_text.specs.Fits.{EventFits}
 use Rattle.hp_text.specs.Reading.{header_at, event_at}
-use Rattle.hp_text.specs.Traces.{BeginsNoHeader, AreWithinLimits, IsTrace, Spells, HasFault, HasBadLine, IsBadRest, IsLineFault}
+use Rattle.hp_text.specs.Traces.{AreWithinLimits, IsTrace, Spells, HasFault, HasBadLine, IsBadRest, IsLineFault}
 use Rattle.hp_text.specs.Traces.{trace_text, events_text, event_line, header_line}
 use Rattle.hp_text.proofs.Options.{some_is}
 use Rattle.hp_text.proofs.Lines.{header_again, event_again}

@@ -61,7 +61,7 @@ range_width : (word : List ℕ) (file from len : ℕ) → IsInLine 6 word → Is
 range_width word file from len w fits =
     joined 28 11 _ _ (joined 17 11 _ _ (joined 6 11 _ _ w (short_field file fits.0)) (short_field from fits.1)) (short_field len fits.2)
 
-short_word : (word : List ℕ) → length word ≤ 6 → HasNoEnd word → IsInLine 6 word
+pub short_word : (word : List ℕ) → length word ≤ 6 → HasNoEnd word → IsInLine 6 word
 short_word word width no_end = record { width = width; no_end = no_end }
 
 op_width : (op : Op) → OpFits op → IsInLine 39 (op_text op)
@@ -84,7 +84,7 @@ op_width (Truncate file new) fits =
     (short_field new fits.1))
 op_width Exit fits = wider 6 39 _ (omega arith) (short_word (codes "exit") (omega arith) refl)
 
-step_width : (word : List ℕ) (task : ℕ) → IsInLine 6 word → IsShort task → IsInLine 56 (word ++ field task)
+pub step_width : (word : List ℕ) (task : ℕ) → IsInLine 6 word → IsShort task → IsInLine 56 (word ++ field task)
 step_width word task w fits = wider 17 56 _ (omega arith) (joined 6 11 _ _ w (short_field task fits))
 
 -- an event's text fits in a line
@@ -112,9 +112,10 @@ quota_width (Some n) fits =
       no_end = decimal_no_end n (omega arith);
     }
 
--- and so does a header's
-pub sizes_width : (s : Sizes) → AreWithinLimits s → IsInLine 56 (sizes_text s)
-sizes_width s within =
+-- and so does a header's, behind any word of six bytes
+pub head_width : (word : List ℕ) → IsInLine 6 word → (s : Sizes) → AreWithinLimits s
+    → IsInLine 56 (word ++ field s.frames ++ field s.files ++ field s.slots ++ field s.tasks ++ quota_field s.quota)
+head_width word short s within =
     let both = and_parts _ _ within in
     let p = and_parts _ _ both.0 in
     let q = and_parts _ _ p.0 in
@@ -123,6 +124,8 @@ sizes_width s within =
     let files = leb-true s.files 16 (and_parts _ _ r.1).1 in
     let slots = leb-true s.slots 64 (and_parts _ _ q.1).1 in
     let tasks = leb-true s.tasks 64 (and_parts _ _ p.1).1 in
-    joined 50 6 _ _ (joined 39 11 _ _ (range_width (codes "pool") s.frames s.files s.slots
-    (short_word (codes "pool") (omega arith) refl) (omega arith, omega arith, omega arith)) (short_field s.tasks (omega arith)))
-    (quota_width s.quota both.1)
+    joined 50 6 _ _ (joined 39 11 _ _ (range_width word s.frames s.files s.slots short
+    (omega arith, omega arith, omega arith)) (short_field s.tasks (omega arith))) (quota_width s.quota both.1)
+
+pub sizes_width : (s : Sizes) → AreWithinLimits s → IsInLine 56 (sizes_text s)
+sizes_width s within = head_width (codes "pool") (short_word (codes "pool") (omega arith) refl) s within

@@ -6,5 +6,7 @@ pub mod Traces
 pub mod Writing
 pub mod Collecting
 pub mod Scripts
+pub mod ScriptLines
+pub mod ScriptTaking
 pub mod Checking
 pub mod Columns

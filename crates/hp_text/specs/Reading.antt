@@ -136,7 +136,14 @@ sizes_at bytes = do
   quota ← quota_at tasks.1
   Some (record { frames = frames.0; files = files.0; slots = slots.0; tasks = tasks.0; quota = quota })
 
--- the first line, without its end
+-- the first line behind this word, without its end
+unfoldable pub header_behind : (word : List ℕ) → List ℕ → Option Sizes
+header_behind word bytes = do
+  text ← after_word word bytes
+  s ← sizes_at text
+  if are_sizes s then Some s else None
+
+-- the first line of a trace, without its end
 unfoldable pub header_at : List ℕ → Option Sizes
 header_at bytes = do
   text ← after_word (codes "pool ") bytes

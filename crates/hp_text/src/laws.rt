@@ -1,8 +1,13 @@
 //! Laws of traces and of the feed, each said by the contract of a function that does nothing.
-ghost use Rattle.std.specs.Prelude.{◌≡◌, ◌++◌, ℕ, List, None, Some, Ok, Err};
+ghost use Rattle.std.specs.Prelude.{◌≡◌, ◌++◌, ℕ, List, [], None, Some, Ok, Err, map};
 ghost use Rattle.std.specs.List.{flat_map};
 ghost use Rattle.hp_base.specs.Text.{Sizes};
 ghost use Rattle.hp_base.specs.declared.event.Event.{Event};
+ghost use Rattle.hp_base.specs.declared.event.Op.{Op};
+ghost use Rattle.hp_text.specs.declared.script_lines.ScriptForm.TheVariants.{Plain};
+ghost use Rattle.hp_text.specs.declared.script_lines.ScriptLine.{ScriptLine};
+ghost use Rattle.hp_text.specs.ScriptLines.{SpellsLines, call_line, calls_in, waits_from};
+ghost use Rattle.hp_text.specs.Scripts.{SpellsScript};
 ghost use Rattle.hp_text.specs.declared.fault.ReplayFault.{ReplayFault};
 ghost use Rattle.hp_text.specs.Lines.{FeedState, opening_feed, feed_after, lines_after, line_text, AreLines, end_of};
 ghost use Rattle.hp_text.specs.Traces.{Spells, SpellsSome, HasFault, HasBadLine, IsLineFault};
@@ -35,4 +40,15 @@ pub fn bytes_have_one_reading()
     ensures header { (bytes : List ℕ) (n : ℕ) → HasFault bytes ReplayFault.BadHeader → HasBadLine n bytes → ⊥ }
     ensures either { (bytes : List ℕ) (fault : ReplayFault) (s : Sizes) (es : List Event)
         → IsLineFault fault → HasFault bytes fault → Spells bytes s es → ⊥ }
+{}
+
+/// A script that begins with the word `pool` is a trace of begins alone, without waits, and each such trace is one: so
+/// `read_any_script` reads it as `read_script` does.
+pub fn a_plain_script_is_a_trace()
+    ensures trace { (bytes : List ℕ) (s : Sizes) (lines : List ScriptLine)
+        → SpellsLines bytes Plain s lines → SpellsScript bytes s (calls_in lines) }
+    ensures waits { (bytes : List ℕ) (s : Sizes) (lines : List ScriptLine)
+        → SpellsLines bytes Plain s lines → waits_from 0 lines ≡ [] }
+    ensures script { (bytes : List ℕ) (s : Sizes) (calls : List (ℕ × Op))
+        → SpellsScript bytes s calls → SpellsLines bytes Plain s (map call_line calls) }
 {}

@@ -6,12 +6,14 @@ ghost use Rattle.hp_base.specs.Text.{sizes};
 ghost use Rattle.hp_base.specs.declared.event.Event.TheVariants.{Step};
 ghost use Rattle.hp_text.specs.Traces.{event_line};
 ghost use Rattle.hp_text.specs.Reading.{header_at, sizes_at, quota_at, last_field_at, after_word, number_at, field_at, last_at, range_at};
-ghost use Rattle.hp_text.specs.Reading.{pair_at, range_op_at, plain_op_at, op_at, event_at, limit, word_limit};
+ghost use Rattle.hp_text.specs.Reading.{pair_at, range_op_at, plain_op_at, op_at, event_at, limit, word_limit, header_behind};
+ghost use Rattle.hp_text.specs.ScriptLines.{call_at, line_in};
 
+use crate::script_lines::{ScriptForm, ScriptLine};
 use hp_base::{Config, Event, File, Index, Op, Task, Vpn};
 
 /// The bytes behind the word, where they begin with it.
-fn after_word<'a>(word: &[u8], bytes: &'a [u8]) -> Option<&'a [u8]>
+pub fn after_word<'a>(word: &[u8], bytes: &'a [u8]) -> Option<&'a [u8]>
     ensures { option_map (λ rest. rest.now) result ≡ after_word word.now bytes.now }
 {
     if bytes.starts_with(word) {
@@ -55,7 +57,7 @@ fn number_at(most: u64, bytes: &[u8]) -> Option<(u64, &[u8])>
 }
 
 /// A number of 32 bits.
-fn short_at(bytes: &[u8]) -> Option<(u32, &[u8])>
+pub fn short_at(bytes: &[u8]) -> Option<(u32, &[u8])>
     ensures { option_map (λ found. (found.0, found.1.now)) result ≡ number_at limit bytes.now }
 {
     let (number, rest) = number_at(u64::from(u32::MAX), bytes)?;
@@ -72,7 +74,7 @@ fn field_at(bytes: &[u8]) -> Option<(u32, &[u8])>
 
 /// The last number of a line.
 #[tactic(auto, unfolding(crate::specs::Reading::last_at))]
-fn last_at(bytes: &[u8]) -> Option<u32>
+pub fn last_at(bytes: &[u8]) -> Option<u32>
     ensures { result ≡ last_at bytes.now }
 {
     match short_at(bytes)? {
@@ -195,7 +197,7 @@ fn op_at(bytes: &[u8]) -> Option<Op>
 
 /// The event that a line spells.
 #[tactic(auto, unfolding(crate::specs::Reading::event_at))]
-pub(crate) fn event_at(bytes: &[u8]) -> Option<Event>
+pub fn event_at(bytes: &[u8]) -> Option<Event>
     ensures { result ≡ event_at bytes.now }
 {
     if let Some(rest) = after_word(b"begin ", bytes) {
@@ -293,15 +295,49 @@ fn sizes_at(bytes: &[u8]) -> Option<(u32, u32, u32, u32, Option<u32>)>
     Some((frames, files, slots, tasks, quota))
 }
 
-/// The config that a first line spells.
-#[tactic(auto, unfolding(crate::specs::Reading::header_at))]
-pub(crate) fn header_at(bytes: &[u8]) -> Option<Config>
-    ensures { option_map sizes result ≡ header_at bytes.now }
+/// The config that a first line with this word spells.
+#[tactic(auto, unfolding(crate::specs::Reading::header_behind))]
+pub(crate) fn header_behind(word: &[u8], bytes: &[u8]) -> Option<Config>
+    ensures { option_map sizes result ≡ header_behind word.now bytes.now }
 {
-    let (frames, files, slots, tasks, quota) = sizes_at(after_word(b"pool ", bytes)?)?;
+    let (frames, files, slots, tasks, quota) = sizes_at(after_word(word, bytes)?)?;
     let config = Config::new(frames, files, slots, tasks).ok()?;
     match quota {
         None => Some(config),
         Some(quota) => config.with_quota(quota).ok(),
+    }
+}
+
+/// The config that the first line of a trace spells.
+#[tactic(auto, unfolding(crate::specs::Reading::header_at, crate::specs::Reading::header_behind))]
+pub fn header_at(bytes: &[u8]) -> Option<Config>
+    ensures { option_map sizes result ≡ header_at bytes.now }
+{
+    header_behind(b"pool ", bytes)
+}
+
+/// The call that a line begins.
+fn call_at(bytes: &[u8]) -> Option<ScriptLine>
+    ensures { result ≡ call_at bytes.now }
+{
+    match event_at(bytes)? {
+        Event::Begin(task, op) => Some(ScriptLine::Call(task, op)),
+        Event::Step(..) | Event::Kill(_) | Event::Resize(_) => None,
+    }
+}
+
+/// The line of a script of this form.
+pub(crate) fn script_line_at(form: ScriptForm, bytes: &[u8]) -> Option<ScriptLine>
+    ensures { result ≡ line_in form bytes.now }
+{
+    match form {
+        ScriptForm::Plain => call_at(bytes),
+        ScriptForm::Waiting => match after_word(b"after ", bytes) {
+            Some(rest) => {
+                let task = Task::new(last_at(rest)?);
+                Some(ScriptLine::After(task))
+            }
+            None => call_at(bytes),
+        },
     }
 }

@@ -1,5 +1,6 @@
 //! Scripts: the calls of tasks, read from a trace whose events are begins alone.
-ghost use Rattle.std.specs.Prelude.{◌≡◌, ◌++◌, true, false, None, IfOk, IfErr, IfSome, IsSomeAnd, OnOk, All, length, map};
+ghost use Rattle.std.specs.Prelude.{◌≡◌, ◌++◌, true, false, [], None, IfOk, IfErr, IfSome, IsSomeAnd, OnOk, All, length, map};
+ghost use Rattle.std.specs.List.Sorted.{IsNonDecreasingBy};
 ghost use Rattle.std.specs.Option.{option_map};
 ghost use Rattle.hp_base.specs.Text.{sizes};
 ghost use Rattle.hp_text.specs.Lines.{line_of, feed_after, lines_after};
@@ -15,12 +16,24 @@ use crate::trace::{Draft, Trace};
 use hp_base::{Config, Event, Op, Task};
 use std::alloc::{AllocError, Global};
 
+/// What a call waits for: it may begin only once all calls of the task that stand on earlier lines have ended.
+#[derive(Clone, Copy, Debug, PartialEq, Eq)]
+pub struct Wait {
+    /// The call that waits: its place among all calls of the script, from 0.
+    pub call: u32,
+    /// The task that is waited for. One that isn't there is not waited for.
+    pub task: Task,
+}
+
 /// How large a pool is, and the calls that tasks make of it: those of a task are made in this order. Calls of a task
-/// that isn't there are none.
+/// that isn't there are none. Some calls wait for other tasks.
 #[derive(Debug, Drop)]
 pub struct Script {
     pub config: Config,
     pub calls: Vec<(Task, Op)>,
+    /// In the order of the calls that wait.
+    pub waits: Vec<Wait>,
+    pub ghost in_order: { IsNonDecreasingBy (λ wait. wait.call) waits.items },
 }
 
 impl Script {
@@ -105,19 +118,22 @@ fn script_of(alloc: Global, trace: &Trace) -> Result<Script, AllocError>
     requires { All IsCall trace.now.events.items }
     ensures config { IfOk result (λ script. sizes script.config ≡ sizes trace.now.config) }
     ensures calls { IfOk result (λ script. map begin_of script.calls.items ≡ trace.now.events.items) }
+    ensures waits { IfOk result (λ script. script.waits.items ≡ []) }
 {
     let calls = calls_begun(alloc, trace.events.as_slice())?;
     Ok(Script {
         config: trace.config,
         calls,
+        waits: Vec::new(alloc),
     })
 }
 
-/// The script that the bytes spell: a trace whose events are begins alone. Any other line is a bad one. Nothing is tried
-/// again after an error.
+/// The script that the bytes spell: a trace whose events are begins alone, and so one without waits. Any other line is a bad one.
+/// Nothing is tried again after an error.
 pub fn read_script<R: Source>(alloc: Global, reader: &mut R) -> Result<Script, ReplayFault>
     ensures ok { IfOk result (λ script. ReadsTrace (R.remaining reader.old) (R.remaining reader.new)
         (sizes script.config) (map begin_of script.calls.items)) }
+    ensures waits { IfOk result (λ script. script.waits.items ≡ []) }
     ensures bad { IfErr result (λ fault. IfSome (R.remaining reader.old) (λ bytes. HasScriptFault bytes fault)) }
     ensures only { IfErr result (λ fault. IsLineFault fault
         → IfSome (R.remaining reader.old) (λ bytes. ¬ (SpellsSomeScript bytes))) }

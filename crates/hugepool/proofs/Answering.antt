@@ -1,7 +1,7 @@
 -- What is answered of a script whose runs or races are told, in lines to an output without a buffer.
 use Rattle.std.proofs.Common.{◌≡◌, ℕ, List, Option, Some, None, Bool, true, false, refl, sym, subst, inl, inr, arith}
-use Rattle.std.specs.Prelude.{OnOk, OnErr, IfErr, IfOk, IfSome, Result, Ok, Err, map}
-use Rattle.std.specs.Io.KnownBytes.{Keeps}
+use Rattle.std.specs.Prelude.{◌==◌, OnOk, OnErr, IfErr, IfOk, IfSome, Result, Ok, Err, map}
+use Rattle.std.specs.Io.KnownBytes.{Appends, Keeps}
 use Rattle.std.proofs.KnownBytes.{Appends-kept, Keeps-trans}
 use Rattle.hp_base.specs.Text.{sizes}
 use Rattle.hp_text.specs.declared.script.Script.{Script}
@@ -11,13 +11,19 @@ use Rattle.hp_explore.specs.declared.exploration.Exploration.{Exploration}
 use Rattle.hp_text.specs.declared.fault.ReplayFault.{ReplayFault}
 use Rattle.hp_text.specs.declared.fault.ReplayFault.TheVariants.{BadLine, BadHeader, Read, Write, Memory}
 use Rattle.hp_explore.specs.RunLines.{lines_text, WroteRuns, WroteSomeRuns}
+use Rattle.hp_text.specs.ScriptLines.{HasLinesFault, ReadsScript}
 use Rattle.hp_text.specs.Scripts.{begin_of, HasScriptFault}
-use Rattle.hp_text.specs.Streams.{source_at, TellsReads, TellsWrites}
+use Rattle.hp_text.specs.Streams.{sink_at, source_at, TellsReads, TellsWrites}
 use Rattle.hp_text.specs.Traces.{HasFault, trace_text}
 use Rattle.hp_text.specs.Writing.{IsWriteFault, Wrote}
+use Rattle.hp_hunt.specs.Summaries.{Summarizes}
+use Rattle.hp_hunt.specs.SummaryText.{summary_text}
+use Rattle.hp_hunt.specs.declared.gathering.Survey.{Survey}
+use Rattle.hp_hunt.specs.declared.summary.Summary.{Summary}
 use Rattle.hp_program.specs.Endings.{ReaderAt}
 use Rattle.hugepool.specs.Racing.{Races, RacesPartly, WroteRacing, WroteSomeRacing}
-use Rattle.hugepool.specs.Requests.{Explores, ExploresPartly, NotDone, PartAt, AnsweredExplore, AnsweredRace, AnsweredRuns}
+use Rattle.hugepool.specs.Requests.{Explores, ExploresPartly, NotDone, PartAt, AnsweredExplore, AnsweredRace, AnsweredRuns, AnsweredSummary}
+use Rattle.hugepool.specs.Summing.{SumsUp, SumsUpPartly}
 use Rattle.hugepool.specs.declared.racing.Racing.{Racing}
 use Rattle.hugepool.specs.declared.racing.Racing.TheVariants.{Times, Trace}
 use Rattle.hugepool.specs.declared.program.Stop.{Stop}
@@ -33,6 +39,15 @@ no_script_fault (Some bytes) (BadLine n) is = absurd is
 no_script_fault (Some bytes) Read is = absurd is
 no_script_fault (Some bytes) Write is = tt
 no_script_fault (Some bytes) Memory is = tt
+
+pub no_lines_fault : (from : Option (List ℕ)) (fault : ReplayFault) → IsWriteFault fault
+    → IfSome from (λ bytes. HasLinesFault bytes fault)
+no_lines_fault None fault is = tt
+no_lines_fault (Some bytes) BadHeader is = absurd is
+no_lines_fault (Some bytes) (BadLine n) is = absurd is
+no_lines_fault (Some bytes) Read is = absurd is
+no_lines_fault (Some bytes) Write is = tt
+no_lines_fault (Some bytes) Memory is = tt
 
 pub no_trace_fault : (from : Option (List ℕ)) (fault : ReplayFault) → IsWriteFault fault → IfSome from (λ bytes. HasFault bytes fault)
 no_trace_fault None fault is = tt
@@ -67,7 +82,7 @@ explores_kept e finished from to start before mid after same kept h =
 
 wrote_kept : (r : Racing) (script : Script) (closed : Bool) (before mid after : Option (List ℕ)) → Keeps mid after
     → WroteRacing r script closed before mid → WroteRacing r script closed before after
-wrote_kept (Times times cut) script closed before mid after kept h =
+wrote_kept (Times times cut chances) script closed before mid after kept h =
     record {
       races = h.races;
       count = h.count;
@@ -75,12 +90,12 @@ wrote_kept (Times times cut) script closed before mid after kept h =
       wrote = Appends-kept before mid after (race_lines 0 h.races) h.wrote kept;
       ends = h.ends;
     }
-wrote_kept Trace script true before mid after kept h = (
+wrote_kept (Trace chances) script true before mid after kept h = (
   h.0,
   h.1,
   Appends-kept before mid after (trace_text (sizes script.config) h.0) h.2 kept,
 )
-wrote_kept Trace script false before mid after kept h = (h.0, Keeps-trans before mid after h.1 kept)
+wrote_kept (Trace chances) script false before mid after kept h = (h.0, Keeps-trans before mid after h.1 kept)
 
 races_kept : (r : Racing) (closed : Bool) (from to start before mid after : Option (List ℕ)) → start ≡ before → Keeps mid after
     → Races r closed from to start mid → Races r closed from to before after
@@ -193,46 +208,101 @@ pub answered_explore : {E : Type 0} (e : Exploration) (from to : Option (List �
     (explored : Result Bool ReplayFault) (flushed : Result (Unit {0}) E) (told : Result (Unit {0}) Stop) → start ≡ before
     → IfOk explored (λ finished. Explores e finished from to start mid)
     → IfErr explored (λ fault. NotDone (ExploresPartly e from to start mid) fault unfailed failures start mid)
-    → IfErr explored (λ fault. IfSome from (λ bytes. HasScriptFault bytes fault))
+    → IfErr explored (λ fault. IfSome from (λ bytes. HasLinesFault bytes fault))
     → TellsReads explored old new → Keeps mid after → OnErr flushed (told ≡ Err (stop.Replay Write))
     → OnOk flushed (IfErr explored (λ fault. told ≡ Err (stop.Replay fault))) → OnOk flushed (explored ≡ Ok true → told ≡ Ok tt)
     → OnOk flushed (explored ≡ Ok false → told ≡ Err stop.Unfinished) → AnsweredExplore e told from to old new before (Some after)
 answered_explore e from to old new unfailed failures start before mid after explored flushed told same done short bad reads kept wrong
     fault all some =
     answered_runs (λ ended out. Explores e ended from to before out) (ExploresPartly e from to before)
-    (λ f. IfSome from (λ bytes. HasScriptFault bytes f)) old new unfailed failures before after explored flushed told
+    (λ f. IfSome from (λ bytes. HasLinesFault bytes f)) old new unfailed failures before after explored flushed told
     (reached (λ ended. Explores e ended from to start mid) (λ ended. Explores e ended from to before after) explored
     (λ ended h. explores_kept e ended from to start before mid after same kept h) done)
     (λ ended h. explores_partly e ended from to before after h)
     (part_reached (ExploresPartly e from to start mid) (ExploresPartly e from to before) explored unfailed failures start before mid after
     same kept (explores_partly_kept e from to start before mid after same kept) short)
-    bad (no_script_fault from Write tt) reads wrong fault all some
+    bad (no_lines_fault from Write tt) reads wrong fault all some
+
+sums_kept : (v : Survey) (finished : Bool) (from to start before mid after : Option (List ℕ)) → start ≡ before → Keeps mid after
+    → SumsUp v finished from to start mid → SumsUp v finished from to before after
+sums_kept v finished from to start before mid after same kept h =
+    subst (λ (x : Option (List ℕ)). SumsUp v finished from to x after) same
+    (record {
+      script = h.script;
+      summary = h.summary;
+      reads = h.reads;
+      is = h.is;
+      wrote = Appends-kept start mid after (summary_text v.seed h.summary) h.wrote kept;
+      ends = h.ends;
+    })
+
+sums_partly : (v : Survey) (finished : Bool) (from to before after : Option (List ℕ)) → SumsUp v finished from to before after
+    → SumsUpPartly v from to before after
+sums_partly v finished from to before after h =
+    record {
+      script = h.script;
+      summary = h.summary;
+      reads = h.reads;
+      is = h.is;
+      wrote = all_of before after (summary_text v.seed h.summary) h.wrote;
+    }
+
+sums_partly_kept : (v : Survey) (from to start before mid after : Option (List ℕ)) → start ≡ before → Keeps mid after
+    → SumsUpPartly v from to start mid → SumsUpPartly v from to before after
+sums_partly_kept v from to start before mid after same kept h =
+    record {
+      script = h.script;
+      summary = h.summary;
+      reads = h.reads;
+      is = h.is;
+      wrote = front_kept start before mid after (summary_text v.seed h.summary) same kept h.wrote;
+    }
+
+pub answered_summary : {E : Type 0} (v : Survey) (from to : Option (List ℕ)) (old new unfailed failures : ℕ)
+    (start before mid after : Option (List ℕ))
+    (summed : Result Bool ReplayFault) (flushed : Result (Unit {0}) E) (told : Result (Unit {0}) Stop) → start ≡ before
+    → IfOk summed (λ finished. SumsUp v finished from to start mid)
+    → IfErr summed (λ fault. NotDone (SumsUpPartly v from to start mid) fault unfailed failures start mid)
+    → IfErr summed (λ fault. IfSome from (λ bytes. HasLinesFault bytes fault))
+    → TellsReads summed old new → Keeps mid after → OnErr flushed (told ≡ Err (stop.Replay Write))
+    → OnOk flushed (IfErr summed (λ fault. told ≡ Err (stop.Replay fault))) → OnOk flushed (summed ≡ Ok true → told ≡ Ok tt)
+    → OnOk flushed (summed ≡ Ok false → told ≡ Err stop.Unfinished) → AnsweredSummary v told from to old new before (Some after)
+answered_summary v from to old new unfailed failures start before mid after summed flushed told same done short bad reads kept wrong
+    fault all some =
+    answered_runs (λ ended out. SumsUp v ended from to before out) (SumsUpPartly v from to before)
+    (λ f. IfSome from (λ bytes. HasLinesFault bytes f)) old new unfailed failures before after summed flushed told
+    (reached (λ ended. SumsUp v ended from to start mid) (λ ended. SumsUp v ended from to before after) summed
+    (λ ended h. sums_kept v ended from to start before mid after same kept h) done)
+    (λ ended h. sums_partly v ended from to before after h)
+    (part_reached (SumsUpPartly v from to start mid) (SumsUpPartly v from to before) summed unfailed failures start before mid after
+    same kept (sums_partly_kept v from to start before mid after same kept) short)
+    bad (no_lines_fault from Write tt) reads wrong fault all some
 
 wrote_some : (r : Racing) (script : Script) (closed : Bool) (before after : Option (List ℕ)) → WroteRacing r script closed before after
     → WroteSomeRacing r script before after
-wrote_some (Times times cut) script closed before after h =
+wrote_some (Times times cut chances) script closed before after h =
     record {
       races = h.races;
       few = omega (arith, h.count);
       each = h.each;
       wrote = all_of before after (race_lines 0 h.races) h.wrote;
     }
-wrote_some Trace script true before after h =
+wrote_some (Trace chances) script true before after h =
     inr (h.0, h.1, all_of before after (trace_text (sizes script.config) h.0) h.2)
-wrote_some Trace script false before after h = inl h.1
+wrote_some (Trace chances) script false before after h = inl h.1
 
 some_kept : (r : Racing) (script : Script) (start before mid after : Option (List ℕ)) → start ≡ before → Keeps mid after
     → WroteSomeRacing r script start mid → WroteSomeRacing r script before after
-some_kept (Times times cut) script start before mid after same kept h =
+some_kept (Times times cut chances) script start before mid after same kept h =
     record {
       races = h.races;
       few = h.few;
       each = h.each;
       wrote = front_kept start before mid after (race_lines 0 h.races) same kept h.wrote;
     }
-some_kept Trace script start before mid after same kept (inl none) =
+some_kept (Trace chances) script start before mid after same kept (inl none) =
     inl (subst (λ (b : Option (List ℕ)). Keeps b after) same (Keeps-trans start mid after none kept))
-some_kept Trace script start before mid after same kept (inr (events, is, wrote)) =
+some_kept (Trace chances) script start before mid after same kept (inr (events, is, wrote)) =
     inr (events, is, front_kept start before mid after (trace_text (sizes script.config) events) same kept wrote)
 
 pub answered_race : {E : Type 0} (r : Racing) (from to : Option (List ℕ)) (old new unfailed failures : ℕ)
@@ -261,7 +331,7 @@ answered_race r from to old new unfailed failures start before mid after raced f
 
 -- a script was read, and its lines written
 module _ (e : Exploration) (from to before after : Option (List ℕ)) (script : Script)
-    (reads : ReadsTrace from to (sizes script.config) (map begin_of script.calls.items)) where
+    (reads : ReadsScript from to (sizes script.config) script.calls.items script.waits.items) where
   pub explores : (explored : Result Bool ReplayFault) → IfOk explored (λ finished. WroteRuns script e finished before after)
       → IfOk explored (λ finished. Explores e finished from to before after)
   explores (Ok finished) runs = record { script = script; reads = reads; runs = runs }
@@ -272,6 +342,19 @@ module _ (e : Exploration) (from to before after : Option (List ℕ)) (script : 
       → IfErr explored (λ fault. NotDone (ExploresPartly e from to before after) fault old new before after)
   explores_short (Ok finished) old new short told = tt
   explores_short (Err fault) old new (is, runs) told = inr (is, record { script = script; reads = reads; runs = runs }, told)
+
+-- and the summary of its runs
+module _ (v : Survey) (from to before after : Option (List ℕ)) (script : Script)
+    (reads : ReadsScript from to (sizes script.config) script.calls.items script.waits.items) (summary : Summary)
+    (is : Summarizes script v summary) where
+  pub sums_up : Appends before after (summary_text v.seed summary)
+      → SumsUp v (summary.finished == summary.runs) from to before after
+  sums_up wrote = record { script = script; summary = summary; reads = reads; is = is; wrote = wrote; ends = refl }
+
+  pub sums_short : (fault : ReplayFault) (old new : ℕ) → IsWriteFault fault → Wrote before after (summary_text v.seed summary)
+      → new ≡ sink_at fault old → NotDone (SumsUpPartly v from to before after) fault old new before after
+  sums_short fault old new of wrote told =
+      inr (of, record { script = script; summary = summary; reads = reads; is = is; wrote = wrote }, told)
 
 -- and what its races write
 module _ (r : Racing) (from to before after : Option (List ℕ)) (script : Script)

@@ -14,23 +14,24 @@ use Rattle.hp_hunt.specs.declared.finding.Found.{Found}
 use Rattle.hp_program.specs.Endings.{HoldsFront}
 use Rattle.hp_program.proofs.Buffered.{all_of, holds, none_of}
 use Rattle.hp_text.specs.Collecting.{ReadsTrace}
-use Rattle.hp_text.specs.Scripts.{begin_of}
+use Rattle.hp_text.specs.ScriptLines.{ReadsScript}
 use Rattle.hp_text.specs.Streams.{TellsReads, TellsWrites}
 use Rattle.hp_text.specs.Traces.{trace_text}
 use Rattle.hp_text.specs.Writing.{IsWriteFault, Wrote}
 use Rattle.hp_text.specs.declared.fault.ReplayFault.{ReplayFault}
 use Rattle.hp_text.specs.declared.fault.ReplayFault.TheVariants.{Write}
 use Rattle.hp_text.specs.declared.script.Script.{Script}
+use Rattle.hugepool.specs.Requests.{OfScript, OfTrace}
 use Rattle.hugepool.specs.Hunting.{Finds, FindsPartly, FindsNone, IsFinding, Minimizes, MinimizesPartly, MinimizesNone, IsMinimized}
 use Rattle.hugepool.specs.Requests.{AnsweredHunt, NotDone}
 use Rattle.hugepool.specs.declared.conditions.Search.{Search}
 use Rattle.hugepool.specs.declared.program.Missed.{Missed}
 use Rattle.hugepool.specs.declared.program.Stop.{Stop}
 use Rattle.hugepool.specs.declared.program.Stop.TheVariants as stop
-use Rattle.hugepool.proofs.Texts.{Between, HasFront, Passes, all_kept, answered_text}
+use Rattle.hugepool.proofs.Texts.{Between, Fronts, HasFront, Passes, all_kept, answered_text}
 
 pub answered_hunt : {E : Type 0} (Done Partly : Between) (Misses : Option (List ℕ) → Option (List ℕ) → Type 0)
-    (IsFront : Sizes → List Event → List ℕ → Type 0) (Bad : List ℕ → ReplayFault → Type 0) (missed : Missed)
+    (IsFront : Fronts) (Bad : List ℕ → ReplayFault → Type 0) (missed : Missed)
     → Passes Done Partly IsFront
     → (from to : Option (List ℕ)) (old new : ℕ) (start before mid after : Option (List ℕ)) (first failures : ℕ) (left : List ℕ)
     (met : Result Bool ReplayFault) (flushed : Result (Unit {0}) E) (told : Result (Unit {0}) Stop) → start ≡ before → first ≡ 0
@@ -52,7 +53,8 @@ answered_hunt {E} Done Partly Misses IsFront Bad missed passes from to old new s
     (Err e) told same clean done stopped bad unwritten reads good kept empty not fault some none =
     subst (λ (t : Result (Unit {0}) Stop). AnsweredHunt Done Misses IsFront Bad missed t from to old new before (Some after))
     (sym not)
-    (answered_text {E = E} Done Partly IsFront Bad passes from to old new start before mid after first failures left (Ok tt) (Err Write) (Err e)
+    (answered_text {E = E} Done Partly IsFront Bad passes from to old new start before mid after first failures left (Ok tt) (Err Write)
+    (Err e)
     (Err (stop.Replay Write)) same clean done tt tt unwritten reads good kept tt tt refl tt refl)
 answered_hunt {E} Done Partly Misses IsFront Bad missed passes from to old new start before mid after first failures left (Ok false)
     (Ok y) told same clean done stopped bad unwritten reads good kept empty not fault some none =
@@ -87,26 +89,24 @@ answered_hunt {E} Done Partly Misses IsFront Bad missed passes from to old new s
     (Err e) told same clean done stopped bad unwritten reads good kept empty not fault some none =
     subst (λ (t : Result (Unit {0}) Stop). AnsweredHunt Done Misses IsFront Bad missed t from to old new before (Some after))
     (sym not)
-    (answered_text {E = E} Done Partly IsFront Bad passes from to old new start before mid after first failures left (Err f) (Err Write) (Err e)
+    (answered_text {E = E} Done Partly IsFront Bad passes from to old new start before mid after first failures left (Err f) (Err Write)
+    (Err e)
     (Err (stop.Replay Write)) same clean tt stopped bad unwritten reads tt kept tt tt refl tt refl)
 
 -- ---- a run that is found
 
 module _ (s : Search) (from to before mid after : Option (List ℕ)) (left : List ℕ) (kept : Keeps mid (append_known after left)) where
-  finds_front : (script : Script) (found : Found) → ReadsTrace from to (sizes script.config) (map begin_of script.calls.items)
+  finds_front : (script : Script) (found : Found) → ReadsScript from to (sizes script.config) script.calls.items script.waits.items
       → IsFound script s.hunt s.conditions.items found → Wrote before mid (trace_text (sizes script.config) found.trace.events.items)
-      → HasFront (IsFinding s) from to before after
+      → HasFront (OfScript (IsFinding s)) from to before after
   finds_front script found reads is wrote =
       inr (record {
-        sizes = sizes script.config;
-        events = map begin_of script.calls.items;
         text = trace_text (sizes script.config) found.trace.events.items;
-        reads = reads;
-        is_front = record { script = script; found = found; sized = refl; called = refl; is = is; spelt = refl };
+        is_front = record { script = script; reads = reads; is = record { found = found; is = is; spelt = refl } };
         holds = holds before mid after left (trace_text (sizes script.config) found.trace.events.items) wrote kept;
       })
 
-pub finds_pass : (s : Search) → Passes (Finds s) (FindsPartly s) (IsFinding s)
+pub finds_pass : (s : Search) → Passes (Finds s) (FindsPartly s) (OfScript (IsFinding s))
 finds_pass s =
     record {
       kept = λ from to before mid after kept h. record {
@@ -123,7 +123,7 @@ finds_pass s =
 
 -- a script was read, and this run of it found
 module _ (s : Search) (from to before after : Option (List ℕ)) (script : Script) (found : Found)
-    (reads : ReadsTrace from to (sizes script.config) (map begin_of script.calls.items))
+    (reads : ReadsScript from to (sizes script.config) script.calls.items script.waits.items)
     (is : IsFound script s.hunt s.conditions.items found) where
   pub finds : (written : Result Bool ReplayFault)
       → OnOk written (Appends before after (trace_text (sizes found.trace.config) found.trace.events.items))
@@ -161,19 +161,21 @@ module _ (conditions : List Condition) (from to before mid after : Option (List 
     (kept : Keeps mid (append_known after left)) where
   minimizes_front : (config : Config) (events small : List Event) → ReadsTrace from to (sizes config) events
       → IsSmall config events conditions small → Wrote before mid (trace_text (sizes config) small)
-      → HasFront (IsMinimized conditions) from to before after
+      → HasFront (OfTrace (IsMinimized conditions)) from to before after
   minimizes_front config events small reads is wrote =
       inr (record {
-        sizes = sizes config;
-        events = events;
         text = trace_text (sizes config) small;
-        reads = reads;
-        is_front = record { config = config; left = small; sized = refl; small = is; spelt = refl };
+        is_front = record {
+          sizes = sizes config;
+          events = events;
+          reads = reads;
+          is = record { config = config; left = small; sized = refl; small = is; spelt = refl };
+        };
         holds = holds before mid after left (trace_text (sizes config) small) wrote kept;
       })
 
 pub minimizes_pass : (conditions : List Condition)
-    → Passes (Minimizes conditions) (MinimizesPartly conditions) (IsMinimized conditions)
+    → Passes (Minimizes conditions) (MinimizesPartly conditions) (OfTrace (IsMinimized conditions))
 minimizes_pass conditions =
     record {
       kept = λ from to before mid after kept h. record {

@@ -1,4 +1,5 @@
 mod Answering
+mod Formatted
 mod Hunted
 mod Reporting
 mod Scheduled

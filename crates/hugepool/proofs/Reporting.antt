@@ -1,12 +1,21 @@
--- What was written of a line where its writing or its flush failed.
+-- What was written of a text where its writing or its flush failed, and of what a text is the trace.
 use Rattle.std.proofs.Common.{◌≡◌, ℕ, List, Option, refl, sym, subst}
-use Rattle.std.specs.Prelude.{OnOk, OnErr, IfErr, Result, Ok, Err}
+use Rattle.std.specs.Prelude.{OnOk, OnErr, IfErr, IfOk, Result, Ok, Err, string_bytes}
 use Rattle.std.specs.Io.KnownBytes.{Appends, Keeps}
 use Rattle.std.proofs.KnownBytes.{Appends-kept}
+use Rattle.hp_base.specs.Text.{sizes}
+use Rattle.hp_client.specs.Tables.{name_of}
+use Rattle.hp_client.specs.declared.table.Workload.{Workload}
+use Rattle.hp_client.specs.declared.work.Report.{Report}
+use Rattle.hp_text.specs.Traces.{trace_text}
 use Rattle.hp_text.specs.Writing.{Wrote}
 use Rattle.hp_text.specs.declared.fault.ReplayFault.{ReplayFault}
 use Rattle.hp_text.specs.declared.fault.ReplayFault.TheVariants.{Write}
+use Rattle.hp_text.specs.declared.trace.Trace.{Trace}
 use Rattle.hp_program.proofs.Buffered.{all_of}
+use Rattle.hugepool.specs.Working.{IsTraced, TracesWork}
+use Rattle.hugepool.specs.declared.working.WorkFault.{WorkFault}
+use Rattle.hugepool.specs.declared.working.WorkWords.{WorkWords}
 
 -- a front that was written stays where the bytes are kept
 wrote_kept : (a b c : Option (List ℕ)) (text : List ℕ) → Wrote a b text → Keeps b c → Wrote a c text
@@ -46,3 +55,17 @@ line_cut start before mid after line written answer flushed same kept wrote fail
     (subst (λ (b : Option (List ℕ)). Wrote b after line) same
     (wrote_kept start mid after line (front_written start mid line written wrote failed) kept))
     is not
+
+-- the text that is laid out is that of the trace of the workload that was run
+pub traces_work : {V : Type 0} (items : V → List ℕ) (words : WorkWords) (workload : Workload) (report : Report) (trace : Trace)
+    (result : Result (Report × V) WorkFault) → name_of workload ≡ string_bytes words.name → IsTraced report trace
+    → IfOk result (λ laid. laid.0 ≡ report) → IfOk result (λ laid. items laid.1 ≡ trace_text (sizes trace.config) trace.events.items)
+    → IfOk result (λ laid. TracesWork words laid.0 (items laid.1))
+traces_work items words workload report trace (Ok laid) named traced same text = record {
+  workload = workload;
+  named = named;
+  trace = trace;
+  traced = subst (λ (r : Report). IsTraced r trace) (sym same) traced;
+  is = text;
+}
+traces_work items words workload report trace (Err fault) named traced same text = tt

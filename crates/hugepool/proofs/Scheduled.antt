@@ -1,22 +1,24 @@
 -- The trace of a run of a script, through a buffer, and how many events a trace has.
-use Rattle.std.proofs.Common.{◌≡◌, ℕ, List, [], Option, Some, refl, sym, ap, subst, inr}
-use Rattle.std.specs.Prelude.{OnOk, OnErr, IfErr, IfSome, Result, Ok, Err, map}
+use Rattle.std.proofs.Common.{◌≡◌, ℕ, zero, suc, ◌+◌, ◌%◌, ◌^◌, ◌<◌, List, [], Option, Some, refl, sym, ap, subst, ◌∙◌, arith, inl, inr}
+use Rattle.std.specs.Prelude.{OnOk, OnErr, IfErr, IfSome, Result, Ok, Err}
 use Rattle.std.specs.Io.KnownBytes.{Appends, Keeps, append_known}
 use Rattle.std.proofs.KnownBytes.{Appends-kept}
 use Rattle.hp_base.specs.Text.{Sizes, sizes}
 use Rattle.hp_base.specs.declared.event.Event.{Event}
-use Rattle.hp_explore.specs.Explored.{IsExplored}
+use Rattle.hp_explore.specs.Explored.{IsExplored, IsRun, turn_limit}
+use Rattle.hp_explore.specs.Schedule.{IsStart, Plan, World, plan_of}
+use Rattle.hp_explore.proofs.Runs.{seed_alone}
 use Rattle.hp_explore.specs.declared.line.RunLine.{RunLine}
 use Rattle.hp_text.specs.declared.script.Script.{Script}
 use Rattle.hp_text.specs.Checking.{ReadsEvents, count_line}
-use Rattle.hp_text.specs.Collecting.{ReadsTrace}
-use Rattle.hp_text.specs.Scripts.{begin_of}
+use Rattle.hp_text.specs.ScriptLines.{ReadsScript}
 use Rattle.hp_text.specs.Streams.{TellsReads, TellsWrites}
 use Rattle.hp_text.specs.Traces.{HasFault, trace_text}
 use Rattle.hp_text.specs.Writing.{IsWriteFault, Wrote}
 use Rattle.hp_text.specs.declared.fault.ReplayFault.{ReplayFault}
 use Rattle.hp_text.specs.declared.fault.ReplayFault.TheVariants.{Write}
-use Rattle.hugepool.specs.Requests.{AnsweredCheck, Checks, ChecksPartly, IsCount, IsScheduled, NotDone, Schedules, SchedulesPartly}
+use Rattle.hugepool.specs.Requests.{AnsweredCheck, Checks, ChecksPartly, IsCount, IsScheduled, NotDone, OfScript, OfTrace, Schedules}
+use Rattle.hugepool.specs.Requests.{SchedulesPartly}
 use Rattle.hugepool.specs.declared.command.Scheduling.{Scheduling}
 use Rattle.hugepool.specs.declared.program.Stop.{Stop}
 use Rattle.hugepool.specs.declared.program.Stop.TheVariants as stop
@@ -27,18 +29,15 @@ use Rattle.hugepool.proofs.Texts.{HasFront, Passes, answered_text}
 -- a front of the count
 checks_front : (from to before mid after : Option (List ℕ)) (left : List ℕ) (n : ℕ) → ReadsEvents n from to
     → Wrote before mid (count_line n)
-    → Keeps mid (append_known after left) → HasFront IsCount from to before after
+    → Keeps mid (append_known after left) → HasFront (OfTrace IsCount) from to before after
 checks_front from to before mid after left n reads wrote kept =
     inr (record {
-      sizes = reads.sizes;
-      events = reads.events;
       text = count_line n;
-      reads = reads.reads;
-      is_front = ap count_line reads.count;
+      is_front = record { sizes = reads.sizes; events = reads.events; reads = reads.reads; is = ap count_line reads.count };
       holds = holds before mid after left (count_line n) wrote kept;
     })
 
-pub checks_pass : Passes Checks ChecksPartly IsCount
+pub checks_pass : Passes Checks ChecksPartly (OfTrace IsCount)
 checks_pass =
     record {
       kept = λ from to before mid after kept h.
@@ -58,28 +57,21 @@ counts_short from to before after n reads (Err fault) old new (is, wrote) told =
 -- a front of the trace of a run
 module _ (s : Scheduling) (from to before mid after : Option (List ℕ)) (left : List ℕ) (kept : Keeps mid (append_known after left)) where
   schedules_front : (script : Script) (events : List Event) (line : RunLine)
-      → ReadsTrace from to (sizes script.config) (map begin_of script.calls.items)
-      → IsExplored script s.seed s.chances.deny s.chances.kill 0 events line
-      → Wrote before mid (trace_text (sizes script.config) events) → HasFront (IsScheduled s) from to before after
+      → ReadsScript from to (sizes script.config) script.calls.items script.waits.items
+      → IsExplored script s.seed s.chances.deny s.chances.kill s.run events line
+      → Wrote before mid (trace_text (sizes script.config) events) → HasFront (OfScript (IsScheduled s)) from to before after
   schedules_front script events line reads explored wrote =
       inr (record {
-        sizes = sizes script.config;
-        events = map begin_of script.calls.items;
         text = trace_text (sizes script.config) events;
-        reads = reads;
         is_front = record {
           script = script;
-          events = events;
-          line = line;
-          sized = refl;
-          called = refl;
-          explored = explored;
-          spelt = refl;
+          reads = reads;
+          is = record { events = events; line = line; explored = explored; spelt = refl };
         };
         holds = holds before mid after left (trace_text (sizes script.config) events) wrote kept;
       })
 
-pub schedules_pass : (s : Scheduling) → Passes (Schedules s) (SchedulesPartly s) (IsScheduled s)
+pub schedules_pass : (s : Scheduling) → Passes (Schedules s) (SchedulesPartly s) (OfScript (IsScheduled s))
 schedules_pass s =
     record {
       kept = λ from to before mid after kept h.
@@ -100,8 +92,8 @@ schedules_pass s =
 
 -- a script was read, and one of its runs written as a trace of these sizes
 module _ (s : Scheduling) (from to before after : Option (List ℕ)) (script : Script) (events : List Event) (line : RunLine) (z : Sizes)
-    (reads : ReadsTrace from to (sizes script.config) (map begin_of script.calls.items))
-    (explored : IsExplored script s.seed s.chances.deny s.chances.kill 0 events line) (same : z ≡ sizes script.config) where
+    (reads : ReadsScript from to (sizes script.config) script.calls.items script.waits.items)
+    (explored : IsExplored script s.seed s.chances.deny s.chances.kill s.run events line) (same : z ≡ sizes script.config) where
   pub schedules : (written : Result (Unit {0}) ReplayFault) → OnOk written (Appends before after (trace_text z events))
       → OnOk written (Schedules s from to before after)
   schedules (Err e) wrote = tt
@@ -147,6 +139,38 @@ pub answered_check : {E : Type 0} (from to : Option (List ℕ)) (old new : ℕ) 
     → IfErr answer (λ fault. told ≡ Err (stop.Replay fault)) → AnsweredCheck told from to old new before (Some after)
 answered_check from to old new start before mid after first failures counted answer flushed told same clean done short bad reads good
     kept is not ok wrong =
-    answered_text Checks ChecksPartly IsCount HasFault checks_pass from to old new start before mid after first failures [] counted answer
+    answered_text Checks ChecksPartly
+    (OfTrace IsCount) HasFault checks_pass from to old new start before mid after first failures [] counted answer
     flushed told same clean done short bad (no_trace_fault from Write tt) reads good
     (subst (λ (x : Option (List ℕ)). Keeps mid x) (sym (unbuffered after)) kept) (whatever flushed (λ unfailed. refl)) is not ok wrong
+
+-- ---- a run by its number
+
+-- the same run under another number
+renumbered : (plan : Plan) (a b left : ℕ) (w : World) (events : List Event) (line : RunLine) → IsRun plan a left w events line
+    → IsRun plan b left w events (record line { run = b })
+unfolding IsRun
+renumbered plan a b zero w events line (tasks, can, none, is) =
+    (tasks, can, none, ap (λ (l : RunLine). record l { run = b }) is)
+renumbered plan a b (suc left) w events line (inl (idle, none, is)) = inl (idle, none, ap (λ (l : RunLine). record l { run = b }) is)
+renumbered plan a b (suc left) w events line (inr (event, rest, v, made, turn, inl (clean, on))) =
+    inr (event, rest, v, made, turn, inl (clean, renumbered plan a b left v rest line on))
+renumbered plan a b (suc left) w events line (inr (event, rest, v, made, turn, inr (found, finds, none, is))) =
+    inr (event, rest, v, made, turn, inr (found, finds, none, ap (λ (l : RunLine). record l { run = b }) is))
+
+-- run 0 of the seed behind it is the run of that number
+pub numbered : (script : Script) (seed deny kill run first : ℕ) (events : List Event) → first ≡ (seed + run) % 2 ^ 64
+    → (line : RunLine) × IsExplored script first deny kill 0 events line
+    → (line : RunLine) × IsExplored script seed deny kill run events line
+unfolding IsExplored
+numbered script seed deny kill run first events is (line, explored) = (
+  record line { run = run },
+  (
+    explored.0,
+    subst (λ (n : ℕ). IsStart script n explored.0) (sym (seed_alone first fits) ∙ is) explored.1,
+    renumbered (plan_of script deny kill) 0 run turn_limit explored.0 events line explored.2,
+  ),
+)
+  where
+    fits : first < 2 ^ 64
+    fits = omega (arith, is)

@@ -6,7 +6,12 @@ use Rattle.std.proofs.KnownBytes.{Appends-kept, Keeps-trans}
 use Rattle.hp_base.specs.Text.{Sizes}
 use Rattle.hp_base.specs.declared.event.Event.{Event}
 use Rattle.hp_draw.specs.Drawing.{IsDrawing, IsPartOfDrawing, NotDrawn, PartlyDrawn, PictureOf}
+use Rattle.hp_explain.specs.Views.{events_until}
+use Rattle.hp_explain.specs.declared.view.View.{View}
 use Rattle.hp_explain.specs.Explaining.{Explained, ExplainedPartly, NotExplained, PartlyExplained, nothing, some_rows, to_the_end}
+use Rattle.hp_explain.specs.JsonRuns.{ExplainedJson, ExplainedSomeJson, NotExplainedJson, WroteSomeObjects}
+use Rattle.hp_explain.specs.JsonRuns.{no_objects, some_objects, all_objects}
+use Rattle.hp_page.specs.Pages.{IsPage, IsPartOfPage, NotPaged, WroteSomePage, head_text, in_head, in_objects, in_page}
 use Rattle.hp_text.specs.Collecting.{NotRead, ReadsTrace}
 use Rattle.hp_text.specs.Streams.{sink_at, TellsReads, TellsWrites}
 use Rattle.hp_text.specs.Traces.{HasFault}
@@ -14,7 +19,8 @@ use Rattle.hp_text.specs.Writing.{IsWriteFault}
 use Rattle.hp_text.specs.declared.fault.ReplayFault.{ReplayFault}
 use Rattle.hp_text.specs.declared.fault.ReplayFault.TheVariants.{BadLine, BadHeader, Read, Write, Memory}
 use Rattle.hp_program.specs.Endings.{HoldsFront}
-use Rattle.hugepool.specs.Requests.{AnsweredDraw, AnsweredExplain, AnsweredText, IsExplaining, NotDone, TextIn, TextShort}
+use Rattle.hugepool.specs.Requests.{AnsweredDraw, AnsweredExplain, AnsweredJson, AnsweredPage, AnsweredText, AreObjects, IsExplaining}
+use Rattle.hugepool.specs.Requests.{IsPaging, NotDone, OfTrace, TextIn, TextShort}
 use Rattle.hugepool.specs.declared.program.Stop.{Stop}
 use Rattle.hugepool.specs.declared.program.Stop.TheVariants as stop
 use Rattle.hugepool.proofs.Answering.{no_trace_fault, reader_at}
@@ -24,13 +30,17 @@ use Rattle.hp_program.proofs.Buffered.{all_of, holds, none_of, unbuffered}
 abbrev pub Between : Type 1
 Between = Option (List ℕ) → Option (List ℕ) → Option (List ℕ) → Option (List ℕ) → Type 0
 
+-- which texts are of what was read
+abbrev pub Fronts : Type 1
+Fronts = Option (List ℕ) → Option (List ℕ) → List ℕ → Type 0
+
 -- the output holds nothing new, or a front of such a text
-abbrev pub HasFront : (Sizes → List Event → List ℕ → Type 0) → Between
+abbrev pub HasFront : Fronts → Between
 HasFront IsFront from to before after = HoldsFront before after [] ⊎ TextShort IsFront from to before after
 
 -- How such a text passes through a buffer that may keep some of it, where `Done` says that it was written and `Partly` that
 -- a front of it was
-pub record Passes (Done Partly : Between) (IsFront : Sizes → List Event → List ℕ → Type 0) : Type 0 where
+pub record Passes (Done Partly : Between) (IsFront : Fronts) : Type 0 where
   pub kept : (from to before mid after : Option (List ℕ)) → Keeps mid after → Done from to before mid → Done from to before after
   pub whole : (from to before mid after : Option (List ℕ)) (left : List ℕ) → Keeps mid (append_known after left) → Done from to before mid
       → HasFront IsFront from to before after
@@ -43,7 +53,7 @@ all_kept mid after left empty kept =
     subst (λ (x : Option (List ℕ)). Keeps mid x) (unbuffered after)
     (subst (λ (x : List ℕ). Keeps mid (append_known after x)) empty kept)
 
-stopped_short : (Done Partly : Between) (IsFront : Sizes → List Event → List ℕ → Type 0) → Passes Done Partly IsFront
+stopped_short : (Done Partly : Between) (IsFront : Fronts) → Passes Done Partly IsFront
     → (fault : ReplayFault) (first failures : ℕ) (from to before mid after : Option (List ℕ)) (left : List ℕ)
     → NotDone (Partly from to before mid) fault first failures before mid → Keeps mid (append_known after left)
     → HasFront IsFront from to before after
@@ -53,7 +63,7 @@ stopped_short Done Partly IsFront passes fault first failures from to before mid
     passes.part from to before mid after left kept partly
 
 -- what was written where the fault is told; a sink that has not failed is flushed
-stopped_in : (Done Partly : Between) (IsFront : Sizes → List Event → List ℕ → Type 0) → Passes Done Partly IsFront
+stopped_in : (Done Partly : Between) (IsFront : Fronts) → Passes Done Partly IsFront
     → (fault : ReplayFault) (from to before mid after : Option (List ℕ)) (first failures : ℕ) (left : List ℕ)
     → NotDone (Partly from to before mid) fault first failures before mid → first ≡ 0 → (nat_lt 0 failures ≡ false → left ≡ [])
     → Keeps mid (append_known after left) → TextIn IsFront fault from to before after
@@ -75,7 +85,7 @@ stopped_in Done Partly IsFront passes Memory from to before mid after first fail
     stopped_short Done Partly IsFront passes Memory first failures from to before mid after left h kept
 
 -- what is answered, through a buffer that may keep some of it
-pub answered_text : {E : Type 0} (Done Partly : Between) (IsFront : Sizes → List Event → List ℕ → Type 0)
+pub answered_text : {E : Type 0} (Done Partly : Between) (IsFront : Fronts)
     (Bad : List ℕ → ReplayFault → Type 0) → Passes Done Partly IsFront
     → (from to : Option (List ℕ)) (old new : ℕ) (start before mid after : Option (List ℕ)) (first failures : ℕ) (left : List ℕ)
     → (wrote answer : Result (Unit {0}) ReplayFault) (flushed : Result (Unit {0}) E) (told : Result (Unit {0}) Stop)
@@ -150,32 +160,26 @@ unfailed (Ok x) failures told = told
 unfailed (Err fault) failures told = tt
 
 -- an explanation
-explains_part : (from to before mid after : Option (List ℕ)) (left : List ℕ) (s : Sizes) (events : List Event)
-    → ReadsTrace from to s events → PartlyExplained s events before mid → Keeps mid (append_known after left)
-    → HasFront IsExplaining from to before after
-explains_part from to before mid after left s events reads (nothing none) kept =
+explains_part : (v : View) (from to before mid after : Option (List ℕ)) (left : List ℕ) (s : Sizes) (events : List Event)
+    → ReadsTrace from to s events → PartlyExplained v s (events_until v events) before mid → Keeps mid (append_known after left)
+    → HasFront (OfTrace (IsExplaining v)) from to before after
+explains_part v from to before mid after left s events reads (nothing none) kept =
     inl (holds before mid after left [] (none_of before mid none) kept)
-explains_part from to before mid after left s events reads (some_rows text begins wrote) kept =
+explains_part v from to before mid after left s events reads (some_rows text begins wrote) kept =
     inr (record {
-      sizes = s;
-      events = events;
       text = text;
-      reads = reads;
-      is_front = inl begins;
+      is_front = record { sizes = s; events = events; reads = reads; is = inl begins };
       holds = holds before mid after left text wrote kept;
     })
-explains_part from to before mid after left s events reads (to_the_end text explains wrote) kept =
+explains_part v from to before mid after left s events reads (to_the_end text explains wrote) kept =
     inr (record {
-      sizes = s;
-      events = events;
       text = text;
-      reads = reads;
-      is_front = inr explains;
+      is_front = record { sizes = s; events = events; reads = reads; is = inr explains };
       holds = holds before mid after left text wrote kept;
     })
 
-explanation_passes : Passes Explained ExplainedPartly IsExplaining
-explanation_passes =
+explanation_passes : (v : View) → Passes (Explained v) (ExplainedPartly v) (OfTrace (IsExplaining v))
+explanation_passes v =
     record {
       kept = λ from to before mid after kept h. record {
         sizes = h.sizes;
@@ -188,47 +192,99 @@ explanation_passes =
         };
       };
       whole = λ from to before mid after left kept h. inr (record {
-        sizes = h.sizes;
-        events = h.events;
         text = h.wrote.text;
-        reads = h.reads;
-        is_front = inr h.wrote.explains;
+        is_front = record { sizes = h.sizes; events = h.events; reads = h.reads; is = inr h.wrote.explains };
         holds = holds before mid after left h.wrote.text (all_of before mid h.wrote.text h.wrote.wrote) kept;
       });
-      part = λ from to before mid after left kept h. explains_part from to before mid after left h.sizes h.events h.reads h.wrote kept;
+      part = λ from to before mid after left kept h. explains_part v from to before mid after left h.sizes h.events h.reads h.wrote kept;
     }
 
-pub answered_explain : {E : Type 0} (from to : Option (List ℕ)) (old new : ℕ) (start before mid after : Option (List ℕ)) (failures : ℕ)
+pub answered_explain : {E : Type 0} (v : View) (from to : Option (List ℕ)) (old new : ℕ) (start before mid after : Option (List ℕ))
+    (failures : ℕ)
     (left : List ℕ) (wrote answer : Result (Unit {0}) ReplayFault) (flushed : Result (Unit {0}) E) (told : Result (Unit {0}) Stop)
-    → start ≡ before → OnOk wrote (Explained from to start mid) → IfErr wrote (λ fault. NotExplained fault from to start mid)
+    → start ≡ before → OnOk wrote (Explained v from to start mid) → IfErr wrote (λ fault. NotExplained v fault from to start mid)
     → IfErr wrote (λ fault. IfSome from (λ bytes. HasFault bytes fault)) → TellsReads wrote old new → TellsWrites wrote 0 failures
     → Keeps mid (append_known after left) → OnOk flushed (nat_lt 0 failures ≡ false → left ≡ []) → OnOk flushed (answer ≡ wrote)
     → OnErr flushed (answer ≡ Err Write) → OnOk answer (told ≡ Ok tt) → IfErr answer (λ fault. told ≡ Err (stop.Replay fault))
-    → AnsweredExplain told from to old new before (Some after)
-answered_explain from to old new start before mid after failures left wrote answer flushed told same done stopped bad reads writes =
-    answered_text Explained ExplainedPartly IsExplaining HasFault explanation_passes from to old new start before mid after 0 failures
+    → AnsweredExplain v told from to old new before (Some after)
+answered_explain v from to old new start before mid after failures left wrote answer flushed told same done stopped bad reads writes =
+    answered_text (Explained v) (ExplainedPartly v) (OfTrace (IsExplaining v)) HasFault
+    (explanation_passes v) from to old new start before mid after 0 failures
     left wrote answer
-    flushed told same refl done (stopped_so ExplainedPartly wrote failures from to start mid stopped writes) bad
+    flushed told same refl done (stopped_so (ExplainedPartly v) wrote failures from to start mid stopped writes) bad
+    (no_trace_fault from Write tt) reads
+    (unfailed wrote failures writes)
+
+-- the objects of a run
+objects_part : (v : View) (from to before mid after : Option (List ℕ)) (left : List ℕ) (s : Sizes) (events : List Event)
+    → ReadsTrace from to s events → WroteSomeObjects v s (events_until v events) before mid → Keeps mid (append_known after left)
+    → HasFront (OfTrace (AreObjects v)) from to before after
+objects_part v from to before mid after left s events reads (no_objects none) kept =
+    inl (holds before mid after left [] (none_of before mid none) kept)
+objects_part v from to before mid after left s events reads (some_objects text some wrote) kept =
+    inr (record {
+      text = text;
+      is_front = record { sizes = s; events = events; reads = reads; is = inl some };
+      holds = holds before mid after left text wrote kept;
+    })
+objects_part v from to before mid after left s events reads (all_objects text all wrote) kept =
+    inr (record {
+      text = text;
+      is_front = record { sizes = s; events = events; reads = reads; is = inr all };
+      holds = holds before mid after left text wrote kept;
+    })
+
+objects_pass : (v : View) → Passes (ExplainedJson v) (ExplainedSomeJson v) (OfTrace (AreObjects v))
+objects_pass v =
+    record {
+      kept = λ from to before mid after kept h. record {
+        sizes = h.sizes;
+        events = h.events;
+        reads = h.reads;
+        wrote = record {
+          text = h.wrote.text;
+          are = h.wrote.are;
+          wrote = Appends-kept before mid after h.wrote.text h.wrote.wrote kept;
+        };
+      };
+      whole = λ from to before mid after left kept h. inr (record {
+        text = h.wrote.text;
+        is_front = record { sizes = h.sizes; events = h.events; reads = h.reads; is = inr h.wrote.are };
+        holds = holds before mid after left h.wrote.text (all_of before mid h.wrote.text h.wrote.wrote) kept;
+      });
+      part = λ from to before mid after left kept h. objects_part v from to before mid after left h.sizes h.events h.reads h.wrote kept;
+    }
+
+pub answered_json : {E : Type 0} (v : View) (from to : Option (List ℕ)) (old new : ℕ) (start before mid after : Option (List ℕ))
+    (failures : ℕ)
+    (left : List ℕ) (wrote answer : Result (Unit {0}) ReplayFault) (flushed : Result (Unit {0}) E) (told : Result (Unit {0}) Stop)
+    → start ≡ before → OnOk wrote (ExplainedJson v from to start mid) → IfErr wrote (λ fault. NotExplainedJson v fault from to start mid)
+    → IfErr wrote (λ fault. IfSome from (λ bytes. HasFault bytes fault)) → TellsReads wrote old new → TellsWrites wrote 0 failures
+    → Keeps mid (append_known after left) → OnOk flushed (nat_lt 0 failures ≡ false → left ≡ []) → OnOk flushed (answer ≡ wrote)
+    → OnErr flushed (answer ≡ Err Write) → OnOk answer (told ≡ Ok tt) → IfErr answer (λ fault. told ≡ Err (stop.Replay fault))
+    → AnsweredJson v told from to old new before (Some after)
+answered_json v from to old new start before mid after failures left wrote answer flushed told same done stopped bad reads writes =
+    answered_text (ExplainedJson v) (ExplainedSomeJson v) (OfTrace (AreObjects v)) HasFault
+    (objects_pass v) from to old new start before mid after 0 failures
+    left wrote answer
+    flushed told same refl done (stopped_so (ExplainedSomeJson v) wrote failures from to start mid stopped writes) bad
     (no_trace_fault from Write tt) reads
     (unfailed wrote failures writes)
 
 -- a picture
 draws_part : (from to before mid after : Option (List ℕ)) (left : List ℕ) (s : Sizes) (events : List Event)
     → ReadsTrace from to s events → PartlyDrawn s events before mid → Keeps mid (append_known after left)
-    → HasFront PictureOf from to before after
+    → HasFront (OfTrace PictureOf) from to before after
 draws_part from to before mid after left s events reads (inl none) kept =
     inl (holds before mid after left [] (none_of before mid none) kept)
 draws_part from to before mid after left s events reads (inr front) kept =
     inr (record {
-      sizes = s;
-      events = events;
       text = front.text;
-      reads = reads;
-      is_front = front.pictures;
+      is_front = record { sizes = s; events = events; reads = reads; is = front.pictures };
       holds = holds before mid after left front.text front.wrote kept;
     })
 
-picture_passes : Passes IsDrawing IsPartOfDrawing PictureOf
+picture_passes : Passes IsDrawing IsPartOfDrawing (OfTrace PictureOf)
 picture_passes =
     record {
       kept = λ from to before mid after kept h. record {
@@ -242,11 +298,8 @@ picture_passes =
         };
       };
       whole = λ from to before mid after left kept h. inr (record {
-        sizes = h.sizes;
-        events = h.events;
         text = h.wrote.text;
-        reads = h.reads;
-        is_front = h.wrote.pictures;
+        is_front = record { sizes = h.sizes; events = h.events; reads = h.reads; is = h.wrote.pictures };
         holds = holds before mid after left h.wrote.text (all_of before mid h.wrote.text h.wrote.wrote) kept;
       });
       part = λ from to before mid after left kept h. draws_part from to before mid after left h.sizes h.events h.reads h.wrote kept;
@@ -260,8 +313,66 @@ pub answered_draw : {E : Type 0} (from to : Option (List ℕ)) (old new : ℕ) (
     → OnErr flushed (answer ≡ Err Write) → OnOk answer (told ≡ Ok tt) → IfErr answer (λ fault. told ≡ Err (stop.Replay fault))
     → AnsweredDraw told from to old new before (Some after)
 answered_draw from to old new start before mid after failures left wrote answer flushed told same done stopped bad reads writes =
-    answered_text IsDrawing IsPartOfDrawing PictureOf HasFault picture_passes from to old new start before mid after 0 failures
+    answered_text IsDrawing IsPartOfDrawing (OfTrace PictureOf) HasFault picture_passes from to old new start before mid after 0 failures
     left wrote answer
     flushed told same refl done (stopped_so IsPartOfDrawing wrote failures from to start mid stopped writes) bad
+    (no_trace_fault from Write tt) reads
+    (unfailed wrote failures writes)
+
+-- a page
+pages_part : (from to before mid after : Option (List ℕ)) (left : List ℕ) (s : Sizes) (events : List Event)
+    → ReadsTrace from to s events → WroteSomePage s events before mid → Keeps mid (append_known after left)
+    → HasFront (OfTrace IsPaging) from to before after
+pages_part from to before mid after left s events reads (in_head wrote) kept =
+    inr (record {
+      text = head_text;
+      is_front = record { sizes = s; events = events; reads = reads; is = inl refl };
+      holds = holds before mid after left head_text wrote kept;
+    })
+pages_part from to before mid after left s events reads (in_objects text some wrote) kept =
+    inr (record {
+      text = text;
+      is_front = record { sizes = s; events = events; reads = reads; is = inr (inl some) };
+      holds = holds before mid after left text wrote kept;
+    })
+pages_part from to before mid after left s events reads (in_page text page wrote) kept =
+    inr (record {
+      text = text;
+      is_front = record { sizes = s; events = events; reads = reads; is = inr (inr page) };
+      holds = holds before mid after left text wrote kept;
+    })
+
+page_passes : Passes IsPage IsPartOfPage (OfTrace IsPaging)
+page_passes =
+    record {
+      kept = λ from to before mid after kept h. record {
+        sizes = h.sizes;
+        events = h.events;
+        reads = h.reads;
+        wrote = record {
+          text = h.wrote.text;
+          page = h.wrote.page;
+          wrote = Appends-kept before mid after h.wrote.text h.wrote.wrote kept;
+        };
+      };
+      whole = λ from to before mid after left kept h. inr (record {
+        text = h.wrote.text;
+        is_front = record { sizes = h.sizes; events = h.events; reads = h.reads; is = inr (inr h.wrote.page) };
+        holds = holds before mid after left h.wrote.text (all_of before mid h.wrote.text h.wrote.wrote) kept;
+      });
+      part = λ from to before mid after left kept h. pages_part from to before mid after left h.sizes h.events h.reads h.wrote kept;
+    }
+
+pub answered_page : {E : Type 0} (from to : Option (List ℕ)) (old new : ℕ) (start before mid after : Option (List ℕ)) (failures : ℕ)
+    (left : List ℕ) (wrote answer : Result (Unit {0}) ReplayFault) (flushed : Result (Unit {0}) E) (told : Result (Unit {0}) Stop)
+    → start ≡ before → OnOk wrote (IsPage from to start mid) → IfErr wrote (λ fault. NotPaged fault from to start mid)
+    → IfErr wrote (λ fault. IfSome from (λ bytes. HasFault bytes fault)) → TellsReads wrote old new → TellsWrites wrote 0 failures
+    → Keeps mid (append_known after left) → OnOk flushed (nat_lt 0 failures ≡ false → left ≡ []) → OnOk flushed (answer ≡ wrote)
+    → OnErr flushed (answer ≡ Err Write) → OnOk answer (told ≡ Ok tt) → IfErr answer (λ fault. told ≡ Err (stop.Replay fault))
+    → AnsweredPage told from to old new before (Some after)
+answered_page from to old new start before mid after failures left wrote answer flushed told same done stopped bad reads writes =
+    answered_text IsPage IsPartOfPage (OfTrace IsPaging) HasFault page_passes from to old new start before mid after 0 failures
+    left wrote answer
+    flushed told same refl done (stopped_so IsPartOfPage wrote failures from to start mid stopped writes) bad
     (no_trace_fault from Write tt) reads
     (unfailed wrote failures writes)

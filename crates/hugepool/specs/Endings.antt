@@ -18,6 +18,7 @@ AnsweredReplay (Ok x) from to old new before after = DidReplay (Ok x) from to ol
 AnsweredReplay (Err (stop.Replay fault)) from to old new before after = DidReplay (Err fault) from to old new before after
 AnsweredReplay (Err (stop.Work fault)) from to old new before after = ⊥
 AnsweredReplay (Err (stop.Missed what)) from to old new before after = ⊥
+AnsweredReplay (Err (stop.Loose fault)) from to old new before after = ⊥
 AnsweredReplay (Err (stop.Usage error)) from to old new before after = ⊥
 AnsweredReplay (Err stop.Unfinished) from to old new before after = ⊥
 

@@ -1,5 +1,5 @@
 -- What comes of `hugepool find` and `hugepool minimize`.
-use Rattle.std.specs.Prelude.{◌≡◌, ℕ, List, Option, map}
+use Rattle.std.specs.Prelude.{◌≡◌, ℕ, List, Option}
 use Rattle.std.specs.Io.KnownBytes.{Appends}
 use Rattle.hp_base.specs.Text.{Sizes, sizes}
 use Rattle.hp_base.specs.declared.config.Config.{Config}
@@ -10,7 +10,7 @@ use Rattle.hp_hunt.specs.Hunting.{IsFound, NoneMeets}
 use Rattle.hp_hunt.specs.declared.condition.Condition.{Condition}
 use Rattle.hp_hunt.specs.declared.finding.Found.{Found}
 use Rattle.hp_text.specs.Collecting.{ReadsTrace}
-use Rattle.hp_text.specs.Scripts.{begin_of}
+use Rattle.hp_text.specs.ScriptLines.{ReadsScript}
 use Rattle.hp_text.specs.Traces.{trace_text}
 use Rattle.hp_text.specs.Writing.{Wrote}
 use Rattle.hp_text.specs.declared.script.Script.{Script}
@@ -22,7 +22,7 @@ use Rattle.hugepool.specs.declared.conditions.Search.{Search}
 pub record Finds (s : Search) (from to before after : Option (List ℕ)) : Type 0 where
   pub script : Script
   pub found : Found
-  pub reads : ReadsTrace from to (sizes script.config) (map begin_of script.calls.items)
+  pub reads : ReadsScript from to (sizes script.config) script.calls.items script.waits.items
   pub is : IsFound script s.hunt s.conditions.items found
   pub wrote : Appends before after (trace_text (sizes script.config) found.trace.events.items)
 
@@ -30,22 +30,19 @@ pub record Finds (s : Search) (from to before after : Option (List ℕ)) : Type 
 pub record FindsPartly (s : Search) (from to before after : Option (List ℕ)) : Type 0 where
   pub script : Script
   pub found : Found
-  pub reads : ReadsTrace from to (sizes script.config) (map begin_of script.calls.items)
+  pub reads : ReadsScript from to (sizes script.config) script.calls.items script.waits.items
   pub is : IsFound script s.hunt s.conditions.items found
   pub wrote : Wrote before after (trace_text (sizes script.config) found.trace.events.items)
 
 -- a script was read, and none of its runs up to the limit meets the conditions
 pub record FindsNone (s : Search) (from to : Option (List ℕ)) : Type 0 where
   pub script : Script
-  pub reads : ReadsTrace from to (sizes script.config) (map begin_of script.calls.items)
+  pub reads : ReadsScript from to (sizes script.config) script.calls.items script.waits.items
   pub none : NoneMeets script s.hunt s.conditions.items s.hunt.limit
 
--- the trace of the first run that meets the conditions, of the script that is spelt so
-pub record IsFinding (s : Search) (z : Sizes) (begins : List Event) (text : List ℕ) : Type 0 where
-  pub script : Script
+-- the trace of the first run of the script that meets the conditions
+pub record IsFinding (s : Search) (script : Script) (text : List ℕ) : Type 0 where
   pub found : Found
-  pub sized : z ≡ sizes script.config
-  pub called : begins ≡ map begin_of script.calls.items
   pub is : IsFound script s.hunt s.conditions.items found
   pub spelt : text ≡ trace_text (sizes script.config) found.trace.events.items
 

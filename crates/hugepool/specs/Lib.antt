@@ -1,7 +1,10 @@
 pub mod Endings
+pub mod Formatting
 pub mod Hunting
 pub mod Racing
 pub mod Requests
 pub mod Status
+pub mod Summing
 pub mod Words
 pub mod Working
+pub mod Stepping

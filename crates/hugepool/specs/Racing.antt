@@ -4,6 +4,7 @@ use Rattle.std.specs.Int.NonZero.{non_zero_u32_get}
 use Rattle.std.specs.Option.{option_map}
 use Rattle.hp_base.specs.Text.{sizes}
 use Rattle.hp_text.specs.declared.script.Script.{Script}
+use Rattle.hp_race.specs.Calls.{is_mortal}
 use Rattle.hp_race.specs.Writing.{WroteRaces, WroteSomeRaces, WroteSomeTrace, WroteTrace}
 use Rattle.hp_text.specs.Collecting.{ReadsTrace}
 use Rattle.hp_text.specs.Scripts.{begin_of}
@@ -12,13 +13,15 @@ use Rattle.hugepool.specs.declared.racing.Racing.TheVariants.{Times, Trace}
 
 -- what a script's races have written; all were closed, or some weren't
 abbrev pub WroteRacing : Racing → Script → (closed : Bool) → (before after : Option (List ℕ)) → Type 0
-WroteRacing (Times times cut) script closed before after = WroteRaces script (option_map non_zero_u32_get cut) times closed before after
-WroteRacing Trace script closed before after = WroteTrace script closed before after
+WroteRacing (Times times cut chances) script closed before after =
+    WroteRaces (is_mortal chances) script (option_map non_zero_u32_get cut) times closed before after
+WroteRacing (Trace chances) script closed before after = WroteTrace (is_mortal chances) script closed before after
 
 -- what they have written where not all of it was
 abbrev pub WroteSomeRacing : Racing → Script → (before after : Option (List ℕ)) → Type 0
-WroteSomeRacing (Times times cut) script before after = WroteSomeRaces script (option_map non_zero_u32_get cut) times before after
-WroteSomeRacing Trace script before after = WroteSomeTrace script before after
+WroteSomeRacing (Times times cut chances) script before after =
+    WroteSomeRaces (is_mortal chances) script (option_map non_zero_u32_get cut) times before after
+WroteSomeRacing (Trace chances) script before after = WroteSomeTrace (is_mortal chances) script before after
 
 -- A script was read, and a line written for each race of it, or the trace of one. A reader had the bytes `from` left, and now
 -- has `to`; an output held `before`, and now holds `after`

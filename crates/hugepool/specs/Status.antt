@@ -1,7 +1,7 @@
 -- The status that the program ends with.
 use Rattle.std.specs.Prelude.{ℕ, Result, Ok, Err}
 use Rattle.hugepool.specs.declared.program.Stop.{Stop}
-use Rattle.hugepool.specs.declared.program.Stop.TheVariants.{Usage, Replay, Work, Missed, Unfinished}
+use Rattle.hugepool.specs.declared.program.Stop.TheVariants.{Usage, Replay, Work, Missed, Loose, Unfinished}
 use Rattle.hugepool.specs.Working.{work_status}
 
 -- 2 where the words ask for nothing, 1 after a fault, or where a run didn't finish, or where nothing meets the conditions
@@ -11,6 +11,7 @@ status_of (Replay fault) = 1
 status_of Unfinished = 1
 status_of (Work fault) = work_status fault
 status_of (Missed what) = 1
+status_of (Loose fault) = 1
 
 -- and 0 where what was asked is done
 abbrev pub status_at : Result (Unit {0}) Stop → ℕ

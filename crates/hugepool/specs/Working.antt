@@ -2,13 +2,20 @@
 use Rattle.std.specs.Prelude.{◌≡◌, ◌≢◌, ◌⊎◌, ℕ, List, [], ◌∷◌, ◌++◌, Option, Some, None, IsSome, Result, Ok, Err, codes, string_bytes}
 use Rattle.std.specs.Fmt.{decimal}
 use Rattle.std.specs.Io.KnownBytes.{Appends, Keeps}
+use Rattle.hp_base.specs.Text.{sizes}
+use Rattle.hp_base.specs.declared.config.Config.{Config}
 use Rattle.hp_client.specs.Carrying.{RunOverCore, RunOverPool, StoppedOverCore, StoppedOverPool}
+use Rattle.hp_client.specs.Heard.{tally_of}
 use Rattle.hp_client.specs.Tables.{name_of}
 use Rattle.hp_client.specs.declared.fault.ClientFault.{ClientFault}
 use Rattle.hp_client.specs.declared.fault.ClientFault.TheVariants.{Memory}
 use Rattle.hp_client.specs.declared.table.Workload.{Workload}
 use Rattle.hp_client.specs.declared.work.Report.{Report}
+use Rattle.hp_core.specs.State.{CoreState}
+use Rattle.hp_format.specs.Drafts.{IsLed}
+use Rattle.hp_text.specs.Traces.{trace_text}
 use Rattle.hp_text.specs.Writing.{Wrote}
+use Rattle.hp_text.specs.declared.trace.Trace.{Trace}
 use Rattle.hp_text.specs.declared.fault.ReplayFault.TheVariants.{Write}
 use Rattle.hugepool.specs.declared.program.Stop.{Stop}
 use Rattle.hugepool.specs.declared.program.Stop.TheVariants as stop
@@ -78,20 +85,50 @@ Unreported words (Client fault) =
     (workload : Workload) × (carrier : Carrier) × IsAsked words workload carrier × IsStopped carrier workload fault
 Unreported words Bad = ⊥
 
--- it was run, and all of its line is written; an output held `before`, and now holds `after`
-abbrev pub Tells : WorkWords → Report → (before after : Option (List ℕ)) → Type 0
-Tells words report before after = (line : List ℕ) × Reports words report line × Appends before after line
+-- what happened to a new pool, which this trace has, led to one with the tally of the report
+pub record IsTraced (report : Report) (trace : Trace) : Type 0 where
+  pub config : Config
+  pub sizes_are : sizes config ≡ sizes trace.config
+  pub core : CoreState
+  pub led : IsLed config core trace.events.items
+  pub tally : report.tally ≡ tally_of core
 
--- What `work` answers: a good report or a bad one is told; a failed write leaves a front of the line; else nothing is written
+-- the words name a workload, it was run, and this is the text of such a trace
+pub record TracesWork (words : WorkWords) (report : Report) (text : List ℕ) : Type 0 where
+  pub workload : Workload
+  pub named : name_of workload ≡ string_bytes words.name
+  pub trace : Trace
+  pub traced : IsTraced report trace
+  pub is : text ≡ trace_text (sizes trace.config) trace.events.items
+
+-- no workload has the name, or the one that has it was stopped
+abbrev pub Untraced : WorkWords → WorkFault → Type 0
+Untraced words (NoWorkload name) = IsUnknown words (NoWorkload name)
+Untraced words (NoDriver name) = ⊥
+Untraced words (Client fault) = (workload : Workload) × (name_of workload ≡ string_bytes words.name)
+Untraced words Bad = ⊥
+
+-- What is answered where a workload is run, of which a text is told: a good report or a bad one is told; a failed write leaves a front
+-- of the text; else nothing is written. An output held `before`, and now holds `after`.
+abbrev pub AnsweredReport : (Told : Report → List ℕ → Type 0) → (Untold : WorkFault → Type 0) → Result (Unit {0}) Stop
+    → (before after : Option (List ℕ)) → Type 0
+AnsweredReport Told Untold (Ok x) before after =
+    (report : Report) × (report.bad ≡ None) × ((text : List ℕ) × Told report text × Appends before after text)
+AnsweredReport Told Untold (Err (stop.Work Bad)) before after =
+    (report : Report) × IsSome report.bad × ((text : List ℕ) × Told report text × Appends before after text)
+AnsweredReport Told Untold (Err (stop.Work (NoWorkload name))) before after = Untold (NoWorkload name) × Keeps before after
+AnsweredReport Told Untold (Err (stop.Work (NoDriver name))) before after = Untold (NoDriver name) × Keeps before after
+AnsweredReport Told Untold (Err (stop.Work (Client fault))) before after = Untold (Client fault) × Keeps before after
+AnsweredReport Told Untold (Err (stop.Replay fault)) before after =
+    (fault ≡ Write) × ((report : Report) × (text : List ℕ) × Told report text × Wrote before after text)
+AnsweredReport Told Untold (Err (stop.Usage error)) before after = ⊥
+AnsweredReport Told Untold (Err stop.Unfinished) before after = ⊥
+AnsweredReport Told Untold (Err (stop.Missed what)) before after = ⊥
+AnsweredReport Told Untold (Err (stop.Loose fault)) before after = ⊥
+
+-- what `work` answers, and what `work --trace` does
 abbrev pub AnsweredWork : WorkWords → Result (Unit {0}) Stop → (before after : Option (List ℕ)) → Type 0
-AnsweredWork words (Ok x) before after = (report : Report) × (report.bad ≡ None) × Tells words report before after
-AnsweredWork words (Err (stop.Work Bad)) before after = (report : Report) × IsSome report.bad × Tells words report before after
-AnsweredWork words (Err (stop.Work (NoWorkload name))) before after = Unreported words (NoWorkload name) × Keeps before after
-AnsweredWork words (Err (stop.Work (NoDriver name))) before after = Unreported words (NoDriver name) × Keeps before after
-AnsweredWork words (Err (stop.Work (Client fault))) before after = Unreported words (Client fault) × Keeps before after
-AnsweredWork words (Err (stop.Replay fault)) before after =
-    (fault ≡ Write)
-    × ((report : Report) × (line : List ℕ) × Reports words report line × Wrote before after line)
-AnsweredWork words (Err (stop.Usage error)) before after = ⊥
-AnsweredWork words (Err stop.Unfinished) before after = ⊥
-AnsweredWork words (Err (stop.Missed what)) before after = ⊥
+AnsweredWork words answer before after = AnsweredReport (Reports words) (Unreported words) answer before after
+
+abbrev pub AnsweredTrace : WorkWords → Result (Unit {0}) Stop → (before after : Option (List ℕ)) → Type 0
+AnsweredTrace words answer before after = AnsweredReport (TracesWork words) (Untraced words) answer before after

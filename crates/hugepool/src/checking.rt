@@ -11,7 +11,7 @@ use hp_text::{ReplayFault, Sink, Source, Watched, check_trace, write_count};
 use std::alloc::Global;
 use std::io::Write;
 
-/// Reads a trace, and writes how many events it has.
+/// Counts the events of a trace.
 fn count_events<R: Source, W: Sink>(
     alloc: Global,
     reader: &mut R,

@@ -1,9 +1,10 @@
 //! The words of `find` and of `minimize`: what a run is asked for.
-use crate::command::{chances, seed, seed_option, with_chances};
+use crate::command::{chances, file_argument, seed, seed_option, with_chances};
 use clap::error::ErrorKind;
 use clap::{Arg, ArgAction, ArgMatches, Command, Error};
 use hp_base::Task;
 use hp_core::Phase;
+use hp_format::phase_named;
 use hp_hunt::{AnswerWord, Condition, Hunt, PoolCount};
 use std::alloc::{AllocError, Global};
 
@@ -32,20 +33,20 @@ enum Kind {
 
 // What is told below the options.
 const FINDS: &str =
-    "Runs are explored as hugepool explore does, in order, until one meets all conditions. Its trace is written, as
-hugepool schedule writes it, and a line on standard error says which run it is and what seed it has. Where none
-does, nothing is written, and the status is 1. At least one condition is needed. A task, a call or a phase that
-never comes about is no error: no run meets such a condition.
-A script is a trace whose events are begins alone (hugepool explore --help). Some stand in examples/:
-  hugepool find --answer 1:2=beyond < examples/truncate-against-store.script > run.trace
-  hugepool find --blocked 2 --final resv=0 < examples/truncate-against-store.script | hugepool explain";
+    "Runs are explored in order, as hugepool explore does, until one meets all conditions. Its trace is printed as
+hugepool schedule prints it, and standard error names the run and its seed. If no run meets them, no trace is
+printed and the status is 1. At least one condition is needed. A condition on a task, call or phase that never
+occurs is not an error; no run meets it.
+A script has the calls that tasks make (hugepool explore --help). Some stand in examples/:
+  hugepool find --answer 1:2=beyond examples/truncate-against-store.script > run.trace
+  hugepool find --blocked 2 --final resv=0 examples/truncate-against-store.script | hugepool explain";
 
 const MINIMIZES: &str =
-    "From a trace that meets all conditions events are dropped, as long as it still meets them: chunks first, and
-then one by one, until none can go. What is left is written as a trace. It depends on the input alone. Where the
-trace doesn't meet the conditions, nothing is written, and the status is 1. At least one condition is needed.
-  hugepool find --answer 1:2=beyond < examples/truncate-against-store.script > run.trace
-  hugepool minimize --answer 1:2=beyond < run.trace | hugepool replay";
+    "Drops events and lowers their numbers as long as the trace still meets all conditions, until no event can be
+dropped and no number lowered by one. The pool and the numbers of tasks stay. The result depends on the input alone.
+If the trace doesn't meet all conditions, none is printed and the status is 1. At least one condition is needed.
+  hugepool find --answer 1:2=beyond examples/truncate-against-store.script > run.trace
+  hugepool minimize --answer 1:2=beyond run.trace | hugepool replay";
 
 // What the value of an option may be.
 const ANSWERS: &str =
@@ -55,7 +56,7 @@ noquota, nomemory, interrupted, killed, badfile, badrange, notmapped or noaddres
 const TASKS: &str = "T is a task, from 1";
 
 const MEETINGS: &str =
-    "T and U are tasks, and P and Q the phases in which their calls stand, as a replay prints them behind \
+    "T and U are tasks, and P and Q the phases of their calls, as a replay prints them after \
 moved";
 
 const COUNTS: &str = "COUNT is resv, free or used, and N a number";
@@ -109,39 +110,6 @@ fn answer_named(word: &str) -> Option<AnswerWord> {
     })
 }
 
-fn phase_named(word: &str) -> Option<Phase> {
-    Some(match word {
-        "start" => Phase::Start,
-        "look" => Phase::Look,
-        "want" => Phase::Want,
-        "locked" => Phase::Locked,
-        "missing" => Phase::Missing,
-        "changed" => Phase::Changed,
-        "abort" => Phase::Abort,
-        "taken" => Phase::Taken,
-        "settle" => Phase::Settle,
-        "committed" => Phase::Committed,
-        "restore" => Phase::Restore,
-        "found" => Phase::Found,
-        "leave" => Phase::Leave,
-        "room" => Phase::Room,
-        "accounted" => Phase::Accounted,
-        "enter" => Phase::Enter,
-        "head" => Phase::Head,
-        "unslot" => Phase::Unslot,
-        "extend" => Phase::Extend,
-        "unmap" => Phase::Unmap,
-        "evict" => Phase::Evict,
-        "delete" => Phase::Delete,
-        "free" => Phase::Free,
-        "size" => Phase::Size,
-        "tail" => Phase::Tail,
-        "clear" => Phase::Clear,
-        "drop" => Phase::Drop,
-        _ => return None,
-    })
-}
-
 fn count_named(word: &str) -> Option<PoolCount> {
     Some(match word {
         "resv" => PoolCount::Resv,
@@ -177,7 +145,7 @@ fn answer_of(text: &str) -> Option<Condition> {
 
 fn standing_of(text: &str) -> Option<(Task, Phase)> {
     let (task, phase) = text.split_once(':')?;
-    Some((task_of(task)?, phase_named(phase)?))
+    Some((task_of(task)?, phase_named(phase.as_bytes())?))
 }
 
 fn meeting_of(text: &str) -> Option<Condition> {
@@ -220,7 +188,7 @@ fn condition_option<'a>(alloc: Global, name: &'a str, form: &'a str, help: &'a s
 }
 
 fn answer_option<'a>(alloc: Global) -> Arg<'a> {
-    let help = "Call K of task T ends with such an answer";
+    let help = "The K-th call of task T ends with the answer WORD";
     condition_option(alloc, "answer", "T:K=WORD", help)
 }
 
@@ -230,7 +198,7 @@ fn blocked_option<'a>(alloc: Global) -> Arg<'a> {
 }
 
 fn meet_option<'a>(alloc: Global) -> Arg<'a> {
-    let help = "At some moment the call of task T stands in phase P and that of task U in phase Q";
+    let help = "At some moment the call of task T is in phase P and that of task U in phase Q";
     condition_option(alloc, "meet", "T:P,U:Q", help)
 }
 
@@ -246,7 +214,7 @@ fn limit_option<'a>(alloc: Global) -> Arg<'a> {
         .action(ArgAction::Set)
         .default_value("65536")
         .value_parser(clap::value_parser!(u32).range(1..=4_294_967_295))
-        .help("How many runs are explored at most")
+        .help("Maximum number of runs")
 }
 
 // The options that say the conditions.
@@ -261,11 +229,10 @@ fn with_conditions<'a>(alloc: Global, command: Command<'a>) -> Result<Command<'a
 /// The words of `find`.
 pub(crate) fn find_command<'a>(alloc: Global) -> Result<Command<'a>, AllocError> {
     let command = Command::new(alloc, "find")
-        .about(
-            "Reads a script from standard input, and writes the first of its runs that meets all conditions as a trace",
-        )
-        .override_usage("hugepool find CONDITION.. [OPTIONS] < FILE")
-        .after_help(FINDS);
+        .about("Prints the first run of a script that meets all conditions, as a trace")
+        .override_usage("hugepool find CONDITION.. [OPTIONS] [FILE]")
+        .after_help(FINDS)
+        .arg(file_argument(alloc))?;
     let command = with_conditions(alloc, command)?
         .arg(limit_option(alloc))?
         .arg(seed_option(alloc))?;
@@ -275,11 +242,10 @@ pub(crate) fn find_command<'a>(alloc: Global) -> Result<Command<'a>, AllocError>
 /// The words of `minimize`.
 pub(crate) fn minimize_command<'a>(alloc: Global) -> Result<Command<'a>, AllocError> {
     let command = Command::new(alloc, "minimize")
-        .about(
-            "Reads a trace from standard input that meets all conditions, and writes a small one that still does",
-        )
-        .override_usage("hugepool minimize CONDITION.. < FILE")
-        .after_help(MINIMIZES);
+        .about("Prints a small trace that still meets all conditions")
+        .override_usage("hugepool minimize CONDITION.. [FILE]")
+        .after_help(MINIMIZES)
+        .arg(file_argument(alloc))?;
     with_conditions(alloc, command)
 }
 

@@ -4,26 +4,27 @@ ghost use Rattle.std.specs.Option.{option_map};
 ghost use Rattle.hugepool.specs.Requests.{AnsweredExplain};
 
 use crate::program::{Stop, stopped};
-use hp_explain::explain;
+use hp_explain::{View, explain};
 use hp_program::{flush_unless, flushed_answer};
 use hp_text::{ReplayFault, Source, Watched};
 use std::alloc::Global;
 use std::io::{BufWriter, Write};
 
-/// Explains a trace. Output is buffered.
+/// Explains a trace, as far as its rows are asked for. Output is buffered.
 pub(crate) fn run_explain<R: Source, W: Write + Drop>(
     alloc: Global,
+    view: &View,
     reader: &mut R,
     out: W,
 ) -> (Result<(), Stop>, Option<W>)
-    ensures { AnsweredExplain result.0 (R.remaining reader.old) (R.remaining reader.new) (R.failures reader.old)
+    ensures { AnsweredExplain view.now result.0 (R.remaining reader.old) (R.remaining reader.new) (R.failures reader.old)
         (R.failures reader.new) (W.contents out) (option_map W.contents result.1) }
 {
     let Ok(buffered) = BufWriter::new(alloc, out) else {
         return (Err(Stop::Replay(ReplayFault::Memory)), None);
     };
     let mut sink = Watched::new(buffered);
-    let explained = explain(alloc, reader, &mut sink);
+    let explained = explain(alloc, view, reader, &mut sink);
     let has_failed = sink.has_failed();
     let mut buffered = sink.into_inner();
     let flushed = flush_unless(has_failed, &mut buffered);

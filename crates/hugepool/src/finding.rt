@@ -3,7 +3,7 @@ ghost use Rattle.std.specs.Prelude.{◌≡◌, ◌≤◌, Ok, true, Err, OnOk, I
 ghost use Rattle.std.specs.Io.KnownBytes.{Appends, Keeps};
 ghost use Rattle.std.specs.Option.{option_map};
 ghost use Rattle.hp_base.specs.Text.{sizes};
-ghost use Rattle.hp_text.specs.Scripts.{HasScriptFault};
+ghost use Rattle.hp_text.specs.ScriptLines.{HasLinesFault};
 ghost use Rattle.hp_text.specs.Streams.{TellsReads, TellsWrites};
 ghost use Rattle.hp_text.specs.Traces.{trace_text};
 ghost use Rattle.hp_text.specs.Writing.{IsWriteFault, Wrote};
@@ -12,31 +12,39 @@ ghost use Rattle.hugepool.specs.Requests.{AnsweredFind, NotDone};
 
 use crate::conditions::Search;
 use crate::program::{Missed, Stop, hunted_answer};
+use crate::progress::{ProgressLine, Report};
+use crate::scheduling::tell_ignored;
 use hp_hunt::{Found, Hunt, find};
 use hp_program::flush_unless;
-use hp_text::{ReplayFault, Sink, Source, Watched, read_script, write_trace};
+use hp_text::{ReplayFault, Sink, Source, Watched, read_any_script, write_trace};
 use std::alloc::Global;
 use std::io;
 use std::io::{BufWriter, Write};
 use std::thread::Threads;
+use std::time::Clock;
 
 // Writes the line that says which run was found.
 fn tell_run(hunt: Hunt, run: u32, faults: &mut impl Write) -> io::Result<()> {
     let seed = hunt.seed.wrapping_add(u64::from(run));
-    let runs = u64::from(run) + 1;
     write!(
         faults,
-        "hugepool: run {run} (seed {seed}) meets it, after {runs} runs\n"
+        "hugepool: run {run} (seed {seed}) is the first to meet all conditions\n"
     )
 }
 
-// Writes the trace of a run that was found, and says which it is. Whether it can be said changes nothing.
+// Says which run was found, once its trace is written and flushed. Whether it can be said changes nothing.
+fn tell_found(hunt: Hunt, run: Option<u32>, flushed: &io::Result<()>, faults: &mut impl Write) {
+    if let (Ok(()), Some(run)) = (flushed, run) {
+        let _ = tell_run(hunt, run, faults);
+    }
+}
+
+// Writes the trace of a run that was found.
 fn write_found<W: Sink>(
     alloc: Global,
-    hunt: Hunt,
     found: &Found,
     writer: &mut W,
-    faults: &mut impl Write,
+    run: &mut Option<u32>,
 ) -> Result<bool, ReplayFault>
     requires { length found.now.trace.events.items ≤ 1000000 }
     ensures ok { OnOk result (Appends (W.contents writer.old) (W.contents writer.new)
@@ -47,18 +55,19 @@ fn write_found<W: Sink>(
     ensures writes { TellsWrites result (W.failures writer.old) (W.failures writer.new) }
 {
     write_trace(alloc, &found.trace, writer)?;
-    let _ = tell_run(hunt, found.run, faults);
+    *run = Some(found.run);
     Ok(true)
 }
 
-/// Reads a script, and writes the trace of the first run that meets the conditions. Tells whether one does.
+/// Reads a script, and writes the trace of the first run that meets the conditions. Tells whether one does, and in `run` which it is.
 fn find_script<R: Source, W: Sink>(
-    rt: &(impl Threads + Sync),
+    rt: &(impl Clock + Threads + Sync),
     alloc: Global,
     search: &Search,
     reader: &mut R,
     writer: &mut W,
-    faults: &mut impl Write,
+    run: &mut Option<u32>,
+    faults: &mut impl Report,
 ) -> Result<bool, ReplayFault>
     ensures ok { IfOk result (λ met. MatchBool met
         (Finds search.now (R.remaining reader.old) (R.remaining reader.new) (W.contents writer.old) (W.contents writer.new))
@@ -67,31 +76,36 @@ fn find_script<R: Source, W: Sink>(
     ensures err { IfErr result (λ fault. NotDone (FindsPartly search.now (R.remaining reader.old) (R.remaining reader.new)
         (W.contents writer.old) (W.contents writer.new)) fault
         (W.failures writer.old) (W.failures writer.new) (W.contents writer.old) (W.contents writer.new)) }
-    ensures bad { IfErr result (λ fault. IfSome (R.remaining reader.old) (λ bytes. HasScriptFault bytes fault)) }
+    ensures bad { IfErr result (λ fault. IfSome (R.remaining reader.old) (λ bytes. HasLinesFault bytes fault)) }
     ensures reads { TellsReads result (R.failures reader.old) (R.failures reader.new) }
     ensures writes { OnOk result (W.failures writer.new ≡ W.failures writer.old) }
 {
-    let script = read_script(alloc, reader)?;
-    match find(
+    let script = read_any_script(alloc, reader)?;
+    tell_ignored(&script, faults);
+    let mut progress = ProgressLine::new(rt, faults);
+    let found = find(
         rt,
         alloc,
         &script,
         search.hunt,
         search.conditions.as_slice(),
-    )? {
-        Some(found) => write_found(alloc, search.hunt, &found, writer, faults),
+        &mut progress,
+    );
+    progress.end();
+    match found? {
+        Some(found) => write_found(alloc, &found, writer, run),
         None => Ok(false),
     }
 }
 
 /// Finds a run of a script. Output is buffered.
 pub(crate) fn run_find<R: Source, W: Write + Drop>(
-    rt: &(impl Threads + Sync),
+    rt: &(impl Clock + Threads + Sync),
     alloc: Global,
     search: Search,
     reader: &mut R,
     out: W,
-    faults: &mut impl Write,
+    faults: &mut impl Report,
 ) -> (Result<(), Stop>, Option<W>)
     ensures { AnsweredFind search result.0 (R.remaining reader.old) (R.remaining reader.new) (R.failures reader.old)
         (R.failures reader.new) (W.contents out) (option_map W.contents result.1) }
@@ -100,11 +114,13 @@ pub(crate) fn run_find<R: Source, W: Write + Drop>(
         return (Err(Stop::Replay(ReplayFault::Memory)), None);
     };
     let mut sink = Watched::new(buffered);
-    let met = find_script(rt, alloc, &search, reader, &mut sink, faults);
+    let mut run = None;
+    let met = find_script(rt, alloc, &search, reader, &mut sink, &mut run, faults);
     let has_failed = sink.has_failed();
     let mut buffered = sink.into_inner();
     let flushed = flush_unless(has_failed, &mut buffered);
     let (out, _left) = buffered.into_parts();
+    tell_found(search.hunt, run, &flushed, faults);
     (
         hunted_answer(met, flushed, Missed::Runs(search.hunt.limit)),
         Some(out),

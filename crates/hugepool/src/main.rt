@@ -13,32 +13,56 @@ mod drawing;
 mod explaining;
 mod exploring;
 mod finding;
+mod formatting;
+mod hinting;
+mod input;
 mod minimizing;
+mod objects;
+mod paging;
 mod program;
+mod progress;
 mod racing;
 mod scheduling;
+mod stepping;
+mod summarizing;
+mod tracing;
+mod typing;
+mod viewing;
 mod words;
 mod working;
 
 use hp_diagnostics::Recalling;
+use hp_program::{Noted, write_error};
 use hp_text::Watched;
+use input::open_input;
 use program::program;
 use std::io;
 use std::process::ExitCode;
 use words::{end_without, words};
 
 fn main(rt: HostRuntime) -> io::Result<ExitCode> {
+    let mut faults = rt.stderr();
     let words = match words(&rt) {
         Ok(words) => words,
-        Err(why) => return Ok(ExitCode::from(end_without(why, &mut rt.stderr()))),
+        Err(why) => return Ok(ExitCode::from(end_without(why, &mut faults))),
     };
-    let (status, _out) = program(
+    let Some(input) = open_input(&rt, words.as_slice(), &mut faults) else {
+        return Ok(ExitCode::from(1));
+    };
+    let mut reader = Recalling::new(Watched::new(Noted::new(input)));
+    let out = Noted::new(rt.stdout());
+    let (status, out) = program(
         &rt,
         rt.alloc(),
         words.as_slice(),
-        &mut Recalling::new(Watched::new(rt.stdin())),
-        rt.stdout(),
-        &mut rt.stderr(),
+        &mut reader,
+        out,
+        &mut faults,
     );
+    if status != 0 {
+        let reading = reader.into_inner().into_inner().error();
+        let writing = out.and_then(|out| out.error());
+        let _ = write_error(reading, writing, &mut faults);
+    }
     Ok(ExitCode::from(status))
 }

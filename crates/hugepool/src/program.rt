@@ -14,20 +14,30 @@ use crate::drawing::run_draw;
 use crate::explaining::run_explain;
 use crate::exploring::run_explore;
 use crate::finding::run_find;
+use crate::formatting::run_format;
+use crate::hinting::hint_format;
 use crate::minimizing::run_minimize;
+use crate::objects::run_explain_json;
+use crate::paging::run_page;
+use crate::progress::Report;
 use crate::racing::run_race;
 use crate::scheduling::run_schedule;
-use crate::working::{WorkFault, run_work};
+use crate::stepping::run_step;
+use crate::summarizing::run_summarize;
+use crate::working::{WorkFault, run_trace_work, run_work};
 use clap::error::ErrorKind;
 use hp_diagnostics::Recalls;
+use hp_format::LooseFault;
 use hp_program::{run_replay, write_fault};
 use hp_text::{ReplayFault, Source};
 use std::alloc::Global;
 use std::convert::AsStr;
 use std::io;
 use std::io::Write;
+use std::rt::Files;
 use std::sync::Wait;
 use std::thread::Threads;
+use std::time::Clock;
 use thiserror::Error;
 
 /// Why the program ends with another status than 0.
@@ -44,15 +54,17 @@ pub(crate) enum Stop {
     Work(WorkFault),
     #[error("{0}")]
     Missed(Missed),
+    #[error("hugepool: {0}\n")]
+    Loose(LooseFault),
 }
 
 /// What doesn't meet the conditions.
 #[derive(Clone, Copy, Debug, PartialEq, Eq, Error)]
 pub(crate) enum Missed {
     /// None of so many runs does.
-    #[error("hugepool: none of {0} runs meets it\n")]
+    #[error("hugepool: no run meets all conditions (runs explored: {0})\n")]
     Runs(u32),
-    #[error("hugepool: the trace doesn't meet it\n")]
+    #[error("hugepool: the trace doesn't meet all conditions\n")]
     Trace,
 }
 
@@ -62,7 +74,7 @@ impl Stop {
     {
         match self {
             Stop::Usage(_) => 2,
-            Stop::Replay(_) | Stop::Unfinished | Stop::Missed(_) => 1,
+            Stop::Replay(_) | Stop::Unfinished | Stop::Missed(_) | Stop::Loose(_) => 1,
             Stop::Work(fault) => fault.status(),
         }
     }
@@ -71,13 +83,18 @@ impl Stop {
 /// Reads the words, does what they ask for on these streams, and returns the status: 0 where it was done, 1 after a fault, 2 where
 /// they ask for nothing. A fault is one line on `faults`, and behind that of a line what is wrong with it, where the reader recalls
 /// the line. The output is handed back, unless it went with a buffer for which there was no memory.
-pub(crate) fn program<H: Threads + Wait + Sync, S: AsStr, R: Source + Recalls, W: Write + Drop>(
+pub(crate) fn program<
+    H: Clock + Files + Threads + Wait + Sync,
+    S: AsStr,
+    R: Source + Recalls,
+    W: Write + Drop,
+>(
     rt: &H,
     alloc: Global,
     words: &[S],
     reader: &mut R,
     out: W,
-    faults: &mut impl Write,
+    faults: &mut impl Report,
 ) -> (u8, Option<W>)
     ensures { (asked : Result Request Error) × EndsAsAsked asked result.0 (R.remaining reader.old) (R.remaining reader.new)
         (R.failures reader.old) (R.failures reader.new) (W.contents out) (option_map W.contents result.1) }
@@ -87,31 +104,52 @@ pub(crate) fn program<H: Threads + Wait + Sync, S: AsStr, R: Source + Recalls, W
 }
 
 // Does what the words were read as.
-fn carry_out<H: Threads + Wait + Sync, R: Source + Recalls, W: Write + Drop>(
+fn carry_out<H: Clock + Files + Threads + Wait + Sync, R: Source + Recalls, W: Write + Drop>(
     rt: &H,
     alloc: Global,
     asked: Result<Request, clap::Error>,
     reader: &mut R,
     out: W,
-    faults: &mut impl Write,
+    faults: &mut impl Report,
 ) -> (u8, Option<W>)
     ensures asked { IfOk asked (λ request. EndsWith result.0 (λ answer. Answered request answer (R.remaining reader.old)
         (R.remaining reader.new) (R.failures reader.old) (R.failures reader.new) (W.contents out) (option_map W.contents result.1))) }
     ensures none { IfErr asked (λ error. EndsWith result.0 (λ answer. AnsweredNone error answer (R.remaining reader.old)
         (R.remaining reader.new) (R.failures reader.old) (R.failures reader.new) (W.contents out) (option_map W.contents result.1))) }
 {
+    let reads_trace = reads_trace(&asked);
     let (answer, out) = answer(rt, alloc, asked, reader, out, faults);
-    (end(answer, &*reader, faults), out)
+    let status = end(&answer, &*reader, faults);
+    if reads_trace {
+        hint_format(alloc, &answer, &*reader, faults);
+    }
+    (status, out)
+}
+
+// Whether a strict trace is read.
+fn reads_trace(asked: &Result<Request, clap::Error>) -> bool {
+    matches!(
+        asked,
+        Ok(
+            Request::Replay
+                | Request::Check
+                | Request::Explain(_)
+                | Request::ExplainJson(_)
+                | Request::Draw
+                | Request::Page
+                | Request::Minimize(_)
+        )
+    )
 }
 
 // The status of an answer, whose fault is told. Whether it can be told changes nothing.
-fn end<R: Recalls>(answer: Result<(), Stop>, reader: &R, faults: &mut impl Write) -> u8
-    ensures { result ≡ status_at answer }
+fn end<R: Recalls>(answer: &Result<(), Stop>, reader: &R, faults: &mut impl Write) -> u8
+    ensures { result ≡ status_at answer.now }
 {
     match answer {
         Ok(()) => 0,
         Err(stop) => {
-            let _ = tell(&stop, reader, faults);
+            let _ = tell(stop, reader, faults);
             stop.status()
         }
     }
@@ -126,13 +164,13 @@ fn tell<R: Recalls>(stop: &Stop, reader: &R, faults: &mut impl Write) -> io::Res
 }
 
 // What is answered to what the words were read as.
-fn answer<H: Threads + Wait + Sync, R: Source, W: Write + Drop>(
+fn answer<H: Clock + Files + Threads + Wait + Sync, R: Source, W: Write + Drop>(
     rt: &H,
     alloc: Global,
     asked: Result<Request, clap::Error>,
     reader: &mut R,
     mut out: W,
-    faults: &mut impl Write,
+    faults: &mut impl Report,
 ) -> (Result<(), Stop>, Option<W>)
     ensures asked { IfOk asked (λ request. Answered request result.0 (R.remaining reader.old) (R.remaining reader.new)
         (R.failures reader.old) (R.failures reader.new) (W.contents out) (option_map W.contents result.1)) }
@@ -144,11 +182,21 @@ fn answer<H: Threads + Wait + Sync, R: Source, W: Write + Drop>(
             let (replayed, out) = run_replay(alloc, reader, out);
             (stopped(replayed), out)
         }
-        Ok(Request::Explore(exploration)) => run_explore(rt, alloc, exploration, reader, out),
+        Ok(Request::Explore(exploration)) => run_explore(
+            rt,
+            alloc,
+            exploration,
+            reader,
+            out,
+            faults,
+        ),
+        Ok(Request::Summarize(survey)) => run_summarize(rt, alloc, survey, reader, out, faults),
         Ok(Request::Check) => run_check(alloc, reader, out),
-        Ok(Request::Explain) => run_explain(alloc, reader, out),
+        Ok(Request::Explain(view)) => run_explain(alloc, &view, reader, out),
+        Ok(Request::ExplainJson(view)) => run_explain_json(alloc, &view, reader, out),
         Ok(Request::Draw) => run_draw(alloc, reader, out),
-        Ok(Request::Schedule(scheduling)) => run_schedule(alloc, scheduling, reader, out),
+        Ok(Request::Page) => run_page(alloc, reader, out),
+        Ok(Request::Schedule(scheduling)) => run_schedule(alloc, scheduling, reader, out, faults),
         Ok(Request::Find(search)) => run_find(rt, alloc, search, reader, out, faults),
         Ok(Request::Minimize(conditions)) => run_minimize(
             alloc,
@@ -156,8 +204,11 @@ fn answer<H: Threads + Wait + Sync, R: Source, W: Write + Drop>(
             reader,
             out,
         ),
+        Ok(Request::Format) => run_format(alloc, reader, out),
+        Ok(Request::Step) => run_step(rt, alloc, reader, out),
         Ok(Request::Race(racing)) => run_race(rt, alloc, racing, reader, out),
         Ok(Request::Work(words)) => run_work(rt, alloc, words, out),
+        Ok(Request::TraceWork(words)) => run_trace_work(alloc, words, out),
         Err(error) => match error.kind() {
             ErrorKind::DisplayHelp | ErrorKind::DisplayVersion => {
                 let written = write_help(&error, &mut out);

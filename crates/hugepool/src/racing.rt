@@ -7,10 +7,11 @@ ghost use Rattle.hp_text.specs.Writing.{IsWriteFault};
 ghost use Rattle.hugepool.specs.Racing.{Races, RacesPartly, WroteRacing, WroteSomeRacing};
 ghost use Rattle.hugepool.specs.Requests.{AnsweredRace, NotDone};
 
+use crate::command::{deny_option, file_argument, seed, seed_option};
 use crate::exploring::explored_answer;
 use crate::program::{Stop, flush_out};
 use clap::{Arg, ArgAction, ArgMatches, Command};
-use hp_race::{write_race_trace, write_races};
+use hp_race::{Chances, write_race_trace, write_races};
 use hp_text::{ReplayFault, Script, Sink, Source, Watched, read_script};
 use std::alloc::{AllocError, Global};
 use std::io::Write;
@@ -22,28 +23,38 @@ use std::thread::Threads;
 #[derive(Clone, Copy)]
 pub(crate) enum Racing {
     /// So many, with a line for each. Where `cut` is a number, the journal is cut behind so many calls of each task.
-    Times { times: u32, cut: Option<NonZeroU32> },
+    Times {
+        times: u32,
+        cut: Option<NonZeroU32>,
+        chances: Chances,
+    },
     /// One, which is written as a trace.
-    Trace,
+    Trace {
+        chances: Chances,
+    },
 }
 
 // What is told below the options.
 const RACES: &str =
-    "A script is a trace whose events are begins alone: the calls that each task makes, in order. Here each task that
-has calls makes them in a thread of its own, all on one pool, and which goes first is up to the machine: so no
-two races need be alike. At the end what each task did is compared with what happened to the pool:
+    "A script is a trace of begins alone: the calls of each task, in order. Each task that has calls makes them in a
+thread of its own, all on one pool. The scheduler decides which task goes first, so two races may differ. At the end
+each task's history is compared with the pool's:
   closed       all calls were made, and the tasks' histories make up the pool's
-  disagree P   they don't, from position P of the pool's history on
-  astray       a call ended as none may
+  disagree P   the histories differ from the pool's at position P
+  astray       a call ended in a way that no call may
 An entry is a hold of the pool's lock that changed it. A trace has the events of all entries, in their order, a million
-at most; where the race isn't closed, nothing is written.
-With --cut N each task makes N of its calls; when all have made theirs, what happened is compared and cut off, and the
-next N calls are made. So a pool never keeps the entries of more calls. What is cut off happens once more to a pool of
-one thread, where the same has to come of it, or the race is astray. An entry of any part counts.
-docs/TRACES.md and hugepool replay --help tell the form of a trace. Some scripts stand in examples/:
-  hugepool race --times 3 < examples/truncate-against-store.script
-  hugepool race --cut 2 < examples/truncate-against-store.script
-  hugepool race --trace < examples/truncate-against-store.script | hugepool replay";
+at most; if the race isn't closed, nothing is printed.
+With --cut N the journal is compared and emptied each time every task has made N calls. The removed events are run
+again on a pool with one thread; if an outcome differs, the race is astray. Entries of all parts count.
+With --deny N each task draws before each of its steps whether an allocation of the step fails. With --kill N it draws
+before each of its calls whether a task is killed, and which: any task of the pool, itself included. A kill strikes the
+call that its victim has in flight; after it all calls of the victim but exit are refused. The draws depend on the seed,
+the race's number and the task alone; their timing depends on the scheduler.
+A script whose header begins with script, so that its calls may wait, is rejected.
+docs/TRACES.md and hugepool replay --help describe traces. Examples:
+  hugepool race --times 3 examples/truncate-against-store.script
+  hugepool race --cut 2 examples/truncate-against-store.script
+  hugepool race --trace examples/truncate-against-store.script | hugepool replay";
 
 fn times_option<'a>(alloc: Global) -> Arg<'a> {
     Arg::new(alloc, "times")
@@ -52,7 +63,7 @@ fn times_option<'a>(alloc: Global) -> Arg<'a> {
         .action(ArgAction::Set)
         .default_value("10")
         .value_parser(clap::value_parser!(u32).range(1..=65_536))
-        .help("How many races")
+        .help("Number of races")
 }
 
 fn cut_option<'a>(alloc: Global) -> Arg<'a> {
@@ -61,7 +72,17 @@ fn cut_option<'a>(alloc: Global) -> Arg<'a> {
         .value_name("N")
         .action(ArgAction::Set)
         .value_parser(clap::value_parser!(u32).range(1..=65_536))
-        .help("Cuts the journal behind each N calls of each task")
+        .help("Cuts the journal after each N calls of each task")
+}
+
+fn kill_option<'a>(alloc: Global) -> Arg<'a> {
+    Arg::new(alloc, "kill")
+        .long("kill")
+        .value_name("N")
+        .action(ArgAction::Set)
+        .default_value("0")
+        .value_parser(clap::value_parser!(u32).range(0..=1000))
+        .help("Chance in 1000 that a task is killed before a call")
 }
 
 fn trace_option<'a>(alloc: Global) -> Result<Arg<'a>, AllocError> {
@@ -70,30 +91,38 @@ fn trace_option<'a>(alloc: Global) -> Result<Arg<'a>, AllocError> {
         .action(ArgAction::SetTrue)
         .conflicts_with("times")?
         .conflicts_with("cut")?;
-    Ok(trace.help("Races once, and writes what happened to the pool as a trace"))
+    Ok(trace.help("Races once, and prints the pool's events as a trace"))
 }
 
 /// The words of the command.
 pub(crate) fn race_command<'a>(alloc: Global) -> Result<Command<'a>, AllocError> {
     let command = Command::new(alloc, "race")
-        .about(
-            "Reads a script from standard input, races its tasks in threads, and writes a line for each race",
-        )
-        .override_usage("hugepool race [OPTIONS] < FILE")
+        .about("Races a script: runs its tasks in threads, and prints a line for each race")
+        .override_usage("hugepool race [OPTIONS] [FILE]")
         .after_help(RACES)
+        .arg(file_argument(alloc))?
         .arg(times_option(alloc))?
+        .arg(seed_option(alloc))?
+        .arg(deny_option(alloc))?
+        .arg(kill_option(alloc))?
         .arg(cut_option(alloc))?;
     command.arg(trace_option(alloc)?)
 }
 
 /// What the words of the command ask for.
 pub(crate) fn race_words(given: &ArgMatches) -> Racing {
+    let chances = Chances {
+        seed: seed(given),
+        deny: given.get_one::<u32>("deny").unwrap_or(0),
+        kill: given.get_one::<u32>("kill").unwrap_or(0),
+    };
     if given.get_flag("trace") {
-        Racing::Trace
+        Racing::Trace { chances }
     } else {
         Racing::Times {
             times: given.get_one::<u32>("times").unwrap_or(10),
             cut: given.get_one::<u32>("cut").and_then(NonZeroU32::new),
+            chances,
         }
     }
 }
@@ -112,8 +141,12 @@ fn write_racing<W: Sink>(
     ensures writes { TellsWrites result (W.failures writer.old) (W.failures writer.new) }
 {
     match racing {
-        Racing::Times { times, cut } => write_races(rt, alloc, script, cut, times, writer),
-        Racing::Trace => write_race_trace(rt, alloc, script, writer),
+        Racing::Times {
+            times,
+            cut,
+            chances,
+        } => write_races(rt, alloc, script, chances, cut, times, writer),
+        Racing::Trace { chances } => write_race_trace(rt, alloc, script, chances, writer),
     }
 }
 

@@ -1,20 +1,24 @@
 //! `hugepool work`: a workload over a driver.
-ghost use Rattle.std.specs.Prelude.{◌≡◌, ◌≢◌, Ok, Err, OnOk, IfOk, IfErr, IfSome, IfNone, IsSome, None, string_bytes};
+ghost use Rattle.std.specs.Prelude.{◌≡◌, ◌≢◌, ◌≤◌, Ok, Err, OnOk, IfOk, IfErr, IfSome, IfNone, IsSome, None, length, string_bytes};
 ghost use Rattle.std.specs.Io.KnownBytes.{Appends};
 ghost use Rattle.std.specs.Option.{option_map};
+ghost use Rattle.hp_base.specs.Text.{sizes};
 ghost use Rattle.hp_client.specs.Tables.{name_of};
 ghost use Rattle.hp_client.specs.declared.table.Workload.{Workload};
+ghost use Rattle.hp_text.specs.Traces.{trace_text};
 ghost use Rattle.hp_text.specs.Writing.{Wrote};
 ghost use Rattle.hugepool.specs.Requests.{IfThere};
 ghost use Rattle.hugepool.specs.Working.{work_status, carrier_name, report_line, IsAsked, IsUnknown};
-ghost use Rattle.hugepool.specs.Working.{Reports, Unreported, AnsweredWork};
+ghost use Rattle.hugepool.specs.Working.{AnsweredTrace, AnsweredWork, Reports, TracesWork, Unreported, Untraced};
 
 use crate::carrying::{Carrier, run_on};
+use crate::formatting::text_of;
 use crate::program::{Stop, flush_out, stopped};
-use clap::{Arg, ArgMatches, Command};
+use crate::tracing::trace_workload;
+use clap::{Arg, ArgAction, ArgMatches, Command};
 use hp_client::{ClientFault, Report, Workload, workload_named};
 use hp_program::flushed_answer;
-use hp_text::{ReplayFault, Watched, write_text};
+use hp_text::{ReplayFault, Trace, Watched, write_text};
 use std::alloc::{AllocError, Global};
 use std::io::Write;
 use std::sync::Wait;
@@ -31,7 +35,11 @@ pub(crate) struct WorkWords {
 /// Why a `work` ends with another status than 0.
 #[derive(Debug, Drop, Error)]
 pub(crate) enum WorkFault {
-    #[error("hugepool: no workload {0}\nhugepool: the workloads are readback, shared, truncate, alloc-instantiate-race, chunk-overcommit,\n  noresv-preserve-resv-page, noresv-regarded-as-resv, truncate_reserve_wraparound, fallocate_basic,\n  fallocate_align, counters\n")]
+    #[error("hugepool: no workload {0}
+hugepool: the workloads are readback, shared, truncate, alloc-instantiate-race, chunk-overcommit,
+  noresv-preserve-resv-page, noresv-regarded-as-resv, truncate_reserve_wraparound, fallocate_basic,
+  fallocate_align, counters
+")]
     NoWorkload(String),
     #[error("hugepool: no driver {0}\nhugepool: the drivers are core, pool\n")]
     NoDriver(String),
@@ -55,8 +63,10 @@ impl WorkFault {
 }
 
 // What is told below the options.
-const WORKLOADS: &str = "One of them, on a pool with a thread for each call of a round:
+const WORKLOADS: &str =
+    "Examples: on a running pool with one thread for each call of a round, and the calls explained:
   hugepool work readback --on pool
+  hugepool work readback --trace | hugepool explain
 
 The workloads, after tests of libhugetlbfs:
   readback                     a word that was stored is loaded again
@@ -64,7 +74,7 @@ The workloads, after tests of libhugetlbfs:
   truncate                     a page that was cut off is beyond the end of its file
   alloc-instantiate-race       two first stores to the last free page both succeed
   chunk-overcommit             a map of more than is left unreserved is refused, and a smaller one isn't
-  noresv-preserve-resv-page    who maps without a reservation can't take a page that another reserved
+  noresv-preserve-resv-page    a task that maps without a reservation can't take a page that another task reserved
   noresv-regarded-as-resv      a page without a reservation that goes leaves the reserve count alone
   truncate_reserve_wraparound  cutting off pages in use doesn't take the reserve count below zero
   fallocate_basic              pages are allocated, punched and allocated past the end, and then mapped
@@ -72,26 +82,35 @@ The workloads, after tests of libhugetlbfs:
   counters                     the counts follow a map, a store, a punch, a truncation and an unmap";
 
 fn name_argument<'a>(alloc: Global) -> Arg<'a> {
-    Arg::new(alloc, "NAME").help("The workload").required(true)
+    Arg::new(alloc, "NAME")
+        .help("Workload to run")
+        .required(true)
 }
 
 fn driver_option<'a>(alloc: Global) -> Arg<'a> {
     Arg::new(alloc, "on")
         .long("on")
         .value_name("DRIVER")
-        .help("What carries its calls: core or pool")
+        .help("Driver that makes its calls: core or pool")
         .default_value("core")
+}
+
+fn trace_option<'a>(alloc: Global) -> Result<Arg<'a>, AllocError> {
+    let trace = Arg::new(alloc, "trace")
+        .long("trace")
+        .action(ArgAction::SetTrue)
+        .conflicts_with("on")?;
+    Ok(trace.help("Prints what the calls did to a pool, as a trace"))
 }
 
 /// The command, for clap.
 pub(crate) fn work_command<'a>(alloc: Global) -> Result<Command<'a>, AllocError> {
-    Command::new(alloc, "work")
-        .about(
-            "Runs a workload, and tells whether each answer and the numbers at the end are those of its table",
-        )
+    let command = Command::new(alloc, "work")
+        .about("Runs a workload, and checks each answer and the counts at the end")
         .after_help(WORKLOADS)
         .arg(name_argument(alloc))?
-        .arg(driver_option(alloc))
+        .arg(driver_option(alloc))?;
+    command.arg(trace_option(alloc)?)
 }
 
 /// What was read of it.
@@ -171,13 +190,13 @@ fn report_answer(report: Report, written: Result<(), ReplayFault>) -> Result<(),
     }
 }
 
-// Writes a line, and flushes it.
-fn write_line<W: Write + Drop>(line: &str, out: W) -> (Result<(), ReplayFault>, W)
-    ensures ok { OnOk result.0 (Appends (W.contents out) (W.contents result.1) line.now) }
-    ensures err { IfErr result.0 (λ fault. (fault ≡ ReplayFault.Write) × Wrote (W.contents out) (W.contents result.1) line.now) }
+// Writes a text, and flushes it.
+fn write_flushed<W: Write + Drop>(text: &[u8], out: W) -> (Result<(), ReplayFault>, W)
+    ensures ok { OnOk result.0 (Appends (W.contents out) (W.contents result.1) text.now) }
+    ensures err { IfErr result.0 (λ fault. (fault ≡ ReplayFault.Write) × Wrote (W.contents out) (W.contents result.1) text.now) }
 {
     let mut sink = Watched::new(out);
-    let written = write_text(&mut sink, line.as_bytes());
+    let written = write_text(&mut sink, text);
     let has_failed = sink.has_failed();
     let mut out = sink.into_inner();
     let flushed = flush_out(has_failed, &mut out);
@@ -195,9 +214,53 @@ pub(crate) fn run_work<H: Threads + Wait + Sync, W: Write + Drop>(
 {
     match reported(rt, alloc, words) {
         Ok((report, line)) => {
-            let (written, out) = write_line(line.as_str(), out);
+            let (written, out) = write_flushed(line.as_bytes(), out);
             (report_answer(report, written), Some(out))
         }
         Err(fault) => (Err(Stop::Work(fault)), Some(out)),
+    }
+}
+
+// Lays out the trace of a workload that was run.
+fn lay_trace(alloc: Global, report: Report, trace: &Trace) -> Result<(Report, Vec<u8>), WorkFault>
+    requires { length trace.now.events.items ≤ 1000000 }
+    ensures report { IfOk result (λ laid. laid.0 ≡ report) }
+    ensures text { IfOk result (λ laid. laid.1.items ≡ trace_text (sizes trace.now.config) trace.now.events.items) }
+    ensures err { IfErr result (λ fault. fault ≡ WorkFault.Client ClientFault.Memory) }
+{
+    match text_of(alloc, trace) {
+        Ok(text) => Ok((report, text)),
+        Err(_) => Err(WorkFault::Client(ClientFault::Memory)),
+    }
+}
+
+// Runs the workload that the words name, and lays its trace out. Nothing is written yet.
+fn traced(alloc: Global, words: WorkWords) -> Result<(Report, Vec<u8>), WorkFault>
+    ensures ok { IfOk result (λ traced. TracesWork words traced.0 traced.1.items) }
+    ensures err { IfErr result (λ fault. Untraced words fault) }
+{
+    let Some(workload) = workload_named(words.name.as_str()) else {
+        return Err(WorkFault::NoWorkload(words.name));
+    };
+    match trace_workload(alloc, workload) {
+        Ok((report, trace)) => lay_trace(alloc, report, &trace),
+        Err(fault) => Err(WorkFault::Client(fault)),
+    }
+}
+
+/// Runs a workload, and writes what its calls did to a pool as a trace.
+pub(crate) fn run_trace_work<W: Write + Drop>(
+    alloc: Global,
+    words: WorkWords,
+    out: W,
+) -> (Result<(), Stop>, Option<W>)
+    ensures { IfThere (option_map W.contents result.1) (AnsweredTrace words result.0 (W.contents out)) }
+{
+    match traced(alloc, words) {
+        Ok((report, text)) => {
+            let (written, out) = write_flushed(text.as_slice(), out);
+            (report_answer(report, written), Some(out))
+        }
+        Err(why) => (Err(Stop::Work(why)), Some(out)),
     }
 }

@@ -7,17 +7,21 @@
 mod program;
 
 use hp_diagnostics::Recalling;
+use hp_program::{Noted, write_error};
 use hp_text::Watched;
 use program::program;
 use std::io;
 use std::process::ExitCode;
 
 fn main(rt: HostRuntime) -> io::Result<ExitCode> {
-    let (status, _out) = program(
-        rt.alloc(),
-        &mut Recalling::new(Watched::new(rt.stdin())),
-        rt.stdout(),
-        &mut rt.stderr(),
-    );
+    let mut faults = rt.stderr();
+    let mut reader = Recalling::new(Watched::new(Noted::new(rt.stdin())));
+    let out = Noted::new(rt.stdout());
+    let (status, out) = program(rt.alloc(), &mut reader, out, &mut faults);
+    if status != 0 {
+        let reading = reader.into_inner().into_inner().error();
+        let writing = out.and_then(|out| out.error());
+        let _ = write_error(reading, writing, &mut faults);
+    }
     Ok(ExitCode::from(status))
 }

@@ -34,22 +34,40 @@ impl Pcg {
     }
 }
 
+/// A call, and of which tasks how many calls have to end before it begins.
+#[derive(Clone)]
+struct Waiting {
+    call: Call,
+    after: Vec<(usize, usize)>,
+}
+
 struct Script {
     sizes: Sizes,
-    queues: Vec<Vec<Call>>,
+    queues: Vec<Vec<Waiting>>,
 }
 
 fn read_script() -> Script {
     let mut text = String::new();
     std::io::stdin().read_to_string(&mut text).expect("a script");
     let mut lines = text.lines();
-    let sizes = lines.next().and_then(|line| header(line.as_bytes())).expect("a header");
-    let mut queues = vec![Vec::new(); sizes.tasks as usize];
+    let first = lines.next().expect("a header");
+    let first = first.strip_prefix("script ").map_or(first.to_string(), |sizes| format!("pool {sizes}"));
+    let sizes = header(first.as_bytes()).expect("a header");
+    let mut queues: Vec<Vec<Waiting>> = vec![Vec::new(); sizes.tasks as usize];
+    let mut after = Vec::new();
     for line in lines {
+        if let Some(task) = line.strip_prefix("after ") {
+            let task: usize = task.parse().expect("a task");
+            if let Some(queue) = task.checked_sub(1).and_then(|at| queues.get(at)) {
+                after.push((task - 1, queue.len()));
+            }
+            continue;
+        }
         let Some(Event::Begin(task, call)) = event(line.as_bytes()) else { panic!("no call: {line}") };
         if (1..=sizes.tasks).contains(&task) {
-            queues[task as usize - 1].push(call);
+            queues[task as usize - 1].push(Waiting { call, after: after.clone() });
         }
+        after.clear();
     }
     Script { sizes, queues }
 }
@@ -65,7 +83,12 @@ fn explore_one(script: &Script, out: &mut impl Write, seed: u64, run: u32, deny:
         runnable.clear();
         for t in 1..=tasks {
             let at = t as usize - 1;
-            let can = if pool.tasks[at].call.is_some() { pool.waits_for(t).is_none() } else { made[at] < script.queues[at].len() };
+            let ended = |other: usize| made[other] - usize::from(pool.tasks[other].call.is_some());
+            let can = if pool.tasks[at].call.is_some() {
+                pool.waits_for(t).is_none()
+            } else {
+                script.queues[at].get(made[at]).is_some_and(|next| next.after.iter().all(|(other, calls)| ended(*other) >= *calls))
+            };
             if can {
                 runnable.push(t);
             }
@@ -86,7 +109,7 @@ fn explore_one(script: &Script, out: &mut impl Write, seed: u64, run: u32, deny:
             pool.step(t, rng.word() % 1000 >= deny)
         } else {
             made[at] += 1;
-            pool.begin(t, script.queues[at][made[at] - 1])
+            pool.begin(t, script.queues[at][made[at] - 1].call)
         };
         turns += 1;
     };

@@ -80,12 +80,16 @@ fn first_difference(ours: &[u8], theirs: &[u8]) -> String {
     unreachable!("they differ")
 }
 
-// What of our complaints the other program has to tell, too: all but the one line that says, behind the number of a line that is
-// wrong, what is wrong with it. Nothing where that line is missing.
+// The line that ours adds where the line that is wrong would be right in the loose form of a trace.
+const HINT: &[u8] = b"hugepool: hugepool format accepts this line, and prints a trace that this command accepts\n";
+
+// Those of our complaints that the other program has to print, too: all but the one line that says, behind the number of a wrong line,
+// what is wrong with it, and a hint behind that line. Nothing where the line with the reason is missing.
 fn without_reason(ours: &[u8]) -> Option<&[u8]> {
     if !ours.starts_with(b"hugepool: line ") { return Some(ours); }
     let end = ours.iter().position(|it| *it == b'\n')? + 1;
     let (first, reason) = ours.split_at(end);
+    let reason = reason.strip_suffix(HINT).unwrap_or(reason);
     let is_one_line = reason.iter().position(|it| *it == b'\n') == reason.len().checked_sub(1);
     (is_one_line && reason.starts_with(b"hugepool: ")).then_some(first)
 }

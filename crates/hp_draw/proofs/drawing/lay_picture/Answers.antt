@@ -24,7 +24,8 @@ returns c =
       of_run = c.in_ok-sketch.ensures;
       layout = c.in_ok-layout.layout;
       places =
-          subst (λ (x : List Event). HasPlaces (length x) (seen c.in_ok-sketch.sketch) c.in_ok-layout.layout) c.as_slice.ensures.value
+          subst (λ (x : List Event). HasPlaces c.args.trace.now.config.quota (length x)
+          (seen c.in_ok-sketch.sketch) c.in_ok-layout.layout) c.as_slice.ensures.value
           c.in_ok-layout.ensures;
       is = c.in_ok-text.ensures;
     }

@@ -15,9 +15,11 @@ pub loop-event-preserved : goal.loop-event-preserved
 loop-event-preserved c = (
   omega (arith, c.loop-event.invariant.0),
   one_event (sizes c.args.trace.now.config).tasks c.args.trace.now.events.items c.deref-event-items.result.now c.loop-event.event-index
-      c.loop-event.at _ c.in_ok-outcome.outcome c.in_ok-core.core c.loop-event.core c.step.new.self (seen c.loop-event.sketch)
+      c.loop-event.at _ c.in_ok-outcome.outcome c.in_ok-core.core c.loop-event.core c.step.new.self
+      c.add_event.new.sketch.waits.holders.items (seen c.loop-event.sketch)
       (seen c.add_event.new.sketch) c.deref-event-items.ensures.value c.loop-event-test.true c.event-item.is
-      c.loop-event.invariant.0 c.loop-event.invariant.1 c.in_ok-outcome.ensures.row c.in_ok-add_event.ensures,
+      c.loop-event.invariant.0 c.loop-event.invariant.1 c.in_ok-outcome.ensures.row
+      c.in_ok-add_event.ensures.holders c.in_ok-add_event.ensures.drawn,
 )
 
 pub returns : goal.returns

@@ -6,7 +6,7 @@ use Rattle.hp_explain.proofs.Laying.{no_change, one_change}
 use Rattle.hp_explain.proofs.waits.push_changes.Goals as goal
 
 pub loop-number-init : goal.loop-number-init
-loop-number-init c = no_change c.args.core.now c.args.before.now c.args.after.now _
+loop-number-init c = no_change c.args.compact c.args.core.now c.args.before.now c.args.after.now _
 
 pub loop-number-preserved : goal.loop-number-preserved
 loop-number-preserved c =
@@ -16,5 +16,6 @@ loop-number-preserved c =
     (omega (arith, there, tasks, c.requires.before)) c.index-before-place.is None in
     let read_after = get_or_read c.args.after.now c.loop-number.number c.index-after-place.result
     (omega (arith, there, tasks, c.requires.after)) c.index-after-place.is None in
-    one_change c.args.core.now c.args.before.now c.args.after.now c.loop-number.number c.new.result c.index-before-place.result
+    one_change c.args.compact c.args.core.now c.args.before.now c.args.after.now c.loop-number.number c.new.result
+    c.index-before-place.result
     c.index-after-place.result _ _ _ c.new.ensures read_before read_after c.loop-number.invariant c.in_ok-push_change.ensures

@@ -9,6 +9,7 @@ use Rattle.hp_base.specs.declared.event.Event.{Event}
 use Rattle.hp_explore.specs.declared.turned.Turned.{Turned}
 use Rattle.hp_explore.specs.Explored.{IsExplored, line_of, idle_finish, last_finish}
 use Rattle.hp_explore.proofs.Runs.{by_turn, by_idling, by_limit, explored, seed_alone}
+use Rattle.hp_explore.proofs.Awaiting.{start_long, turn_long}
 use Rattle.hp_explore.proofs.exploring.events_of.Goals as goal
 
 pub loop-made-init : goal.loop-made-init
@@ -19,6 +20,7 @@ loop-made-init c =
       turns = c.in_ok-walk.ensures.turns;
       runnable = c.list_runnable.ensures.tasks;
       in_range = c.list_runnable.ensures.in_range;
+      many = start_long c.args.script.now _ c.in_ok-walk.walk c.in_ok-walk.ensures;
       count = ap (λ (es : List Event). length es) c.new-events.ensures.items;
       goes_on = λ rest line run. subst (λ (es : List Event). IsExplored script c.args.seed plan.deny plan.kill 0 (es ++ rest) line)
           (sym c.new-events.ensures.items)
@@ -60,6 +62,7 @@ loop-made-preserved c =
       turns = omega (arith, turn.turns, c.loop-made.invariant.turns);
       runnable = c.in_ok-turned.ensures.runnable;
       in_range = c.in_ok-turned.ensures.in_range;
+      many = turn_long plan w v _ turn ∙ c.loop-made.invariant.many;
       count = omega (arith, long, longer, c.loop-made.invariant.count);
       goes_on = λ rest line run. subst (λ (es : List Event). IsExplored c.args.script.now c.args.seed plan.deny plan.kill 0 es line)
           (sym (append_assoc old (e ∷ []) rest) ∙ ap (λ (es : List Event). es ++ rest) (sym is))

@@ -12,6 +12,7 @@ invariant-loop-made l = record {
   runnable : AreRunnable l.plan l.walk l.tasks;
   in_range : All (λ t. (1 ≤ t) × (t ≤ length l.walk.made)) l.tasks;
   count : length l.events.items ≡ l.made;
+  many : length l.walk.made ≡ l.script.config.tasks;
   goes_on : (rest : List Event) (line : RunLine) → IsRun l.plan 0 (1000000 - l.made) l.walk rest line
       → IsExplored l.script l.seed l.plan.deny l.plan.kill 0 (l.events.items ++ rest) line;
 }

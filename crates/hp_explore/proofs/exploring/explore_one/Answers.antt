@@ -1,13 +1,14 @@
 -- Each turn leaves a run of one turn less, and the last world ends it.
 use Rattle.std.proofs.Common.{◌≡◌, ◌+◌, ◌-◌, ◌%◌, ◌^◌, ◌∙◌, ℕ, [], ◌∷◌, sym, ap, subst}
-use Rattle.std.proofs.Common.{refl, arith}
+use Rattle.std.proofs.Common.{refl, arith, length}
 use Rattle.std.specs.Prelude.{Option, not, IfSome}
 use Rattle.hp_explore.specs.declared.turned.Turned.{Turned}
 use Rattle.hp_explore.specs.declared.line.Finish.{Finish}
 use Rattle.hp_explore.specs.declared.line.RunLine.{RunLine}
-use Rattle.hp_explore.specs.Schedule.{Turn}
+use Rattle.hp_explore.specs.Schedule.{Turn, World}
 use Rattle.hp_explore.specs.Explored.{IsRun, line_of}
 use Rattle.hp_explore.proofs.Runs.{by_turn, by_idling, by_limit, explored, none_told, some_told, idle_line}
+use Rattle.hp_explore.proofs.Awaiting.{is_planned, start_long, turn_long}
 use Rattle.hp_explore.proofs.exploring.explore_one.Goals as goal
 
 pub loop-turn-init : goal.loop-turn-init
@@ -17,6 +18,7 @@ loop-turn-init c =
       turns = c.in_ok-walk.ensures.turns;
       runnable = c.list_runnable.ensures.tasks;
       in_range = c.list_runnable.ensures.in_range;
+      many = start_long c.args.script.now _ c.in_ok-walk.walk c.in_ok-walk.ensures;
       goes_on = λ events line run. (
         events,
         explored c.args.script.now c.args.seed plan.deny plan.kill c.args.run _ 1000000 plan c.in_ok-walk.walk events line c.requires
@@ -49,8 +51,10 @@ loop-turn-preserved c =
       turns = omega (arith, turn.turns, c.loop-turn.invariant.turns);
       runnable = c.in_ok-turned.ensures.runnable;
       in_range = c.in_ok-turned.ensures.in_range;
+      many = turn_long plan w v _ turn ∙ c.loop-turn.invariant.many;
       goes_on = λ events line rest. c.loop-turn.invariant.goes_on (some.0.event ∷ events) line
-          (by_turn plan c.args.run (1000000 - (i + 1)) (1000000 - i) w v some.0.event events line (omega (arith, c.loop-turn-test.true)) turn
+          (by_turn plan c.args.run (1000000 - (i + 1)) (1000000 - i) w v some.0.event events line (omega
+          (arith, c.loop-turn-test.true)) turn
           c.is_clean.ensures rest);
     }
 
@@ -65,3 +69,13 @@ returns-clause-line c =
     c.loop-turn.invariant.goes_on [] c.line-2.result
     (subst (λ (l : RunLine). IsRun plan run left w [] l) (sym is)
     (by_limit plan run left w c.loop-turn.tasks none c.loop-turn.invariant.runnable))
+
+pub last_finish-finish-requires-clause-planned : goal.last_finish-finish-requires-clause-planned
+last_finish-finish-requires-clause-planned c =
+    is_planned c.args.plan.now c.args.script.now (length c.loop-turn.walk.made) c.requires c.loop-turn.invariant.many
+
+pub idle_finish-requires-clause-planned : goal.idle_finish-requires-clause-planned
+idle_finish-requires-clause-planned c =
+    let none = none_told c.in_ok-turned.turned (c.is_none.ensures ∙ ap not c.if-is_none.true) in
+    is_planned c.args.plan.now c.args.script.now (length c.turn.new.self.made) c.requires
+    (ap (λ (x : World). length x.made) (c.in_ok-turned.ensures.stays none) ∙ c.loop-turn.invariant.many)

@@ -11,6 +11,7 @@ invariant-loop-turn l = record {
   turns : l.walk.turns ≡ l.turn;
   runnable : AreRunnable l.plan l.walk l.tasks;
   in_range : All (λ t. (1 ≤ t) × (t ≤ length l.walk.made)) l.tasks;
+  many : length l.walk.made ≡ l.script.config.tasks;
   goes_on : (events : List Event) (line : RunLine) → IsRun l.plan l.run (1000000 - l.turn) l.walk events line
       → IsLine l.script l.seed l.plan.deny l.plan.kill l.run line;
 }

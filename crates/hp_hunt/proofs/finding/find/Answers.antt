@@ -16,6 +16,7 @@ loop-first-preserved g c =
     let none = none_told c.in_ok-found.field-0 c.in_default.not-Some in
     let missed = c.in_ok-found.ensures.none none in
     record {
+      some = c.next_part-size.ensures.some;
       within = omega (arith, c.min-count.ensures, c.loop-first-test.true);
       none = all_missed _ missed c.args.script.now c.args.hunt c.args.conditions.now c.in_ok-plan.ensures refl refl refl
           c.loop-first.invariant.none;

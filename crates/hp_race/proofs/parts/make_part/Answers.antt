@@ -1,4 +1,5 @@
 use Rattle.std.proofs.Common.{◌∙◌, ap, length, arith}
+use Rattle.hp_race.specs.Calls.{is_mortal}
 use Rattle.hp_race.proofs.Parting.{all_emptied, part_made, same_items}
 use Rattle.hp_race.proofs.parts.make_part.Goals as goal
 
@@ -12,7 +13,8 @@ returns-clause-new g c =
 pub returns-clause-part : goal.returns-clause-part
 returns-clause-part g c =
     λ cut.
-    part_made c.args.script.now c.args.call_range c.args.again.now.entries c.cut_part.new.again.entries c.args.again.now.core
+    part_made (is_mortal c.args.track.now.chances) c.args.script.now c.args.call_range c.args.again.now.entries c.cut_part.new.again.entries
+    c.args.again.now.core
     c.cut_part.new.again.core c.in_ok-made.seats.items c.in_ok-made.made c.if-not-made.false c.in_ok-made.ensures.calls
     (rw (← c.as_slice.ensures.value) (c.are_seated.ensures c.if-not-are_seated.false))
     (c.in_ok-made.ensures.count ∙ c.requires.count)

@@ -1,4 +1,5 @@
 use Rattle.std.proofs.Common.{◌+◌, refl}
+use Rattle.hp_race.specs.Calls.{is_mortal}
 use Rattle.hp_race.proofs.Parting.{parts_end, parts_on}
 use Rattle.hp_race.proofs.parts.make_parts.Goals as goal
 
@@ -15,7 +16,8 @@ loop-from-preserved g c =
       new = c.in_ok-is_made.ensures.new c.if-not-is_made.false;
       count = c.in_ok-is_made.ensures.count;
       before =
-          parts_on c.args.script.now c.args.most at.from (at.from + c.args.most) at.again.entries c.make_part.new.again.entries
+          parts_on (is_mortal c.args.track.now.chances) c.args.script.now c.args.most at.from
+          (at.from + c.args.most) at.again.entries c.make_part.new.again.entries
           c.args.again.now.entries c.args.again.now.core at.again.core c.make_part.new.again.core at.invariant.before
           (c.in_ok-is_made.ensures.part c.if-not-is_made.false) refl;
     }
@@ -24,5 +26,6 @@ pub returns-clause-parts : goal.returns-clause-parts
 returns-clause-parts g c =
     let at = c.loop-from in
     λ all.
-    parts_end c.args.script.now c.args.most at.from c.in_ok-longest.longest at.again.entries c.args.again.now.entries
+    parts_end (is_mortal c.args.track.now.chances) c.args.script.now c.args.most at.from c.in_ok-longest.longest at.again.entries
+    c.args.again.now.entries
     c.args.again.now.core at.again.core at.invariant.before c.in_ok-longest.ensures.end c.loop-from-test.false

@@ -15,8 +15,9 @@ loop-seat-preserved-then-len-call_range g c =
       tt,
       apart.1,
       inv.3,
-      one_more (HasMadeIn c.args.script.now c.args.call_range) _ _ c.in-Some.seat items inv.4
-          (idle_made c.args.script.now c.args.call_range c.in-Some.seat c.in_ok-calls.calls.items
+      λ mortal.
+          one_more (HasMadeIn mortal c.args.script.now c.args.call_range) _ _ c.in-Some.seat items (inv.4 mortal)
+          (idle_made mortal c.args.script.now c.args.call_range c.in-Some.seat c.in_ok-calls.calls.items
           (c.in_ok-calls.ensures ∙ ap (calls_of c.args.script.now.calls.items) c.task.ensures)
           (omega (arith, c.if-len-call_range.true, c.in_ok-calls.calls.ok)) apart.0),
       omega (arith, inv.5, ap length items, length-append at.idle.items (c.in-Some.seat ∷ []), short),

@@ -1,4 +1,5 @@
 use Rattle.std.proofs.Common.{arith}
+use Rattle.hp_race.specs.Calls.{is_mortal}
 use Rattle.hp_race.proofs.Making.{all_new, whole}
 use Rattle.hp_race.proofs.racing.run_by.Goals as goal
 
@@ -7,5 +8,5 @@ make_range-requires-after_bounds g c κs within = all_new _ _ c.in_ok-shared.ens
 
 pub returns-clause-calls : goal.returns-clause-calls
 returns-clause-calls g c =
-    whole c.args.script.now c.len.result c.in_ok-made.made c.in_ok-made.seats.items
+    whole (is_mortal c.args.chances) c.args.script.now c.len.result c.in_ok-made.made c.in_ok-made.seats.items
     (omega (arith, c.len.ensures, c.args.script.now.calls.ok)) c.in_ok-made.ensures.calls

@@ -1,11 +1,13 @@
 use Rattle.std.proofs.lemmas.Result.{IfOk-weaker}
+use Rattle.hp_race.specs.Calls.{is_mortal}
 use Rattle.hp_race.proofs.Told.{kept_closed, kept_few, kept_none, none_few}
 use Rattle.hp_race.proofs.telling.keep.Goals as goal
 
 pub returns-in-Ok-clause-race : goal.returns-in-Ok-clause-race
 returns-in-Ok-clause-race g c =
     IfOk-weaker c.kept_of.result _ _
-    (kept_closed c.args.script.now c.args.made c.args.shared.config c.args.seats.items c.in-Ok.closed.core c.in-Ok.closed.last.first
+    (kept_closed (is_mortal c.args.chances) c.args.script.now c.args.made c.args.shared.config c.args.seats.items c.in-Ok.closed.core
+    c.in-Ok.closed.last.first
     c.in-Ok.closed.last.entries.items c.in-Ok.ensures.seated c.requires.config c.requires.count c.in-Ok.ensures.run c.requires.calls)
     c.kept_of.ensures
 
@@ -18,7 +20,8 @@ pub returns-in-Err-clause-race : goal.returns-in-Err-clause-race
 returns-in-Err-clause-race g c =
     IfOk-weaker c.nothing_kept.result _ _
     (λ kept none.
-    kept_none c.args.script.now c.args.shared.config c.args.seats.items c.in-Err.refused.fault kept c.requires.config
+    kept_none (is_mortal c.args.chances) c.args.script.now c.args.shared.config c.args.seats.items c.in-Err.refused.fault kept
+    c.requires.config
     c.in-Err.ensures.refused none.0 none.1)
     c.nothing_kept.ensures
 

@@ -7,7 +7,8 @@ use Rattle.hugepool.proofs.explaining.run_explain.Goals as goal
 
 pub returns : goal.returns
 returns g c =
-    answered_explain _ _ _ _ _ _ _ _ (failures_of c.explain-explained.new.writer) (writer_buffer c.flush_unless-flushed.new.buffered)
+    answered_explain c.args.view.now _ _ _ _ _ _ _ _ (failures_of c.explain-explained.new.writer)
+    (writer_buffer c.flush_unless-flushed.new.buffered)
     c.explain-explained.result c.flushed_answer.result c.flush_unless-flushed.result c.stopped.result
     (opens g.W.Write.contents _ c.in-Ok.buffered c.args.out c.new-sink.ensures.stream c.in-Ok.ensures.inner c.in-Ok.ensures.empty)
     c.explain-explained.ensures.ok c.explain-explained.ensures.err c.explain-explained.ensures.bad c.explain-explained.ensures.reads

@@ -1,6 +1,6 @@
 use Rattle.std.proofs.Common.{arith}
 use Rattle.std.proofs.KnownBytes.{Keeps-refl}
-use Rattle.hp_hunt.proofs.Cuts.{fewer_left}
+use Rattle.hp_hunt.proofs.Lefts.{fewer_left}
 use Rattle.hugepool.proofs.Hunted.{minimizes, minimizes_short}
 use Rattle.hugepool.proofs.minimizing.minimize_trace.Goals as goal
 

@@ -2,6 +2,7 @@ use Rattle.std.specs.Io.Buffered.{writer_buffer}
 use Rattle.hp_text.specs.Streams.{failures_of}
 use Rattle.hp_text.specs.Traces.{HasFault}
 use Rattle.hp_text.specs.declared.fault.ReplayFault.TheVariants.{Write}
+use Rattle.hugepool.specs.Requests.{OfTrace}
 use Rattle.hugepool.specs.Hunting.{Minimizes, MinimizesPartly, MinimizesNone, IsMinimized}
 use Rattle.hugepool.proofs.Answering.{no_trace_fault}
 use Rattle.hugepool.proofs.Hunted.{answered_hunt, minimizes_pass}
@@ -11,7 +12,8 @@ use Rattle.hugepool.proofs.minimizing.run_minimize.Goals as goal
 pub returns : goal.returns
 returns g c =
     let conditions = c.args.conditions.now in
-    answered_hunt (Minimizes conditions) (MinimizesPartly conditions) (MinimizesNone conditions) (IsMinimized conditions) HasFault _
+    answered_hunt (Minimizes conditions) (MinimizesPartly conditions) (MinimizesNone conditions) (OfTrace
+    (IsMinimized conditions)) HasFault _
     (minimizes_pass conditions) _ _ _ _ _ _ _ _ (failures_of c.new-sink.result) (failures_of c.minimize_trace-met.new.writer)
     (writer_buffer c.flush_unless-flushed.new.buffered) c.minimize_trace-met.result c.flush_unless-flushed.result c.hunted_answer.result
     (opens g.W.Write.contents _ c.in-Ok.buffered c.args.out c.new-sink.ensures.stream c.in-Ok.ensures.inner c.in-Ok.ensures.empty)

@@ -1,7 +1,9 @@
 -- The walk's turn is one of the run; where there is none, the run is over.
-use Rattle.std.proofs.Common.{◌≡◌, ◌∙◌, ap, subst, arith}
+use Rattle.std.proofs.Common.{◌≡◌, ◌∙◌, [], ap, sym, subst, length, arith, inl, inr}
 use Rattle.std.specs.Prelude.{IfSome}
 use Rattle.hp_explore.specs.SoFar.{RunState, Ends, GoesOn}
+use Rattle.hp_explore.specs.Schedule.{World, AreRunnable, IsPlan}
+use Rattle.hp_explore.proofs.Awaiting.{stays_planned}
 use Rattle.hp_explore.proofs.SoFar.{goes_on_if, ends_idle, ends_late}
 use Rattle.hp_explore.proofs.scheduled_run.ScheduledRun.turn.Goals as goal
 
@@ -29,3 +31,25 @@ returns-clause-ends c =
 pub returns-clause-stays : goal.returns-clause-stays
 returns-clause-stays c =
     λ none. c.in_ok-turned.ensures.stays none ∙ ap (λ (r : RunState). r.world) c.self.view_is
+
+pub returns-then-turns-ge-TURN_LIMIT-clause-over : goal.returns-then-turns-ge-TURN_LIMIT-clause-over
+returns-then-turns-ge-TURN_LIMIT-clause-over c =
+    let seen = ap (λ (r : RunState). r.world.turns) c.self.view_is in
+    λ none. inr (omega (arith, c.if-turns-ge-TURN_LIMIT.true, c.turns.ensures, seen))
+
+pub returns-clause-over : goal.returns-clause-over
+returns-clause-over c =
+    λ none. inl (subst (λ (w : World). AreRunnable c.args.plan.now w []) (sym (c.in_ok-turned.ensures.stays none))
+    (c.in_ok-turned.ensures.idle none))
+
+pub returns-clause-between : goal.returns-clause-between
+returns-clause-between c =
+    let plan = c.args.plan.now in
+    record {
+      runnable = c.in_ok-turned.ensures.runnable;
+      in_range = c.in_ok-turned.ensures.in_range;
+      planned =
+          stays_planned plan c.self.inside.walk c.turn.new.self c.in_ok-turned.turned
+          (subst (λ (r : RunState). IsPlan plan (length r.world.made)) (sym c.self.view_is) c.requires.planned)
+          c.in_ok-turned.ensures.turn c.in_ok-turned.ensures.stays;
+    }

@@ -11,8 +11,8 @@ use Rattle.hp_explore.proofs.walk.Walk.idle_finish.Goals as goal
 pub returns-clause-finish : goal.returns-clause-finish
 returns-clause-finish c =
     let seen = c.self.view_is in
-    idle_ends c.args.plan.now c.args.self.now
+    idle_ends c.args.plan.now c.args.self.now c.requires.planned
     (subst (λ (v : World). IsReached (as_state v.core)) seen c.is_reached.ensures)
     (subst (λ (v : World). IsOfConfig v.core) seen c.always.ensures.config)
     (subst (λ (v : World). (config_of v.core).tasks ≡ length v.made) seen c.self.invariant.tasks)
-    c.requires
+    c.requires.idle

@@ -29,5 +29,5 @@ returns-in-Ok-clause-run g c =
 pub returns-in-Err-clause-refused : goal.returns-in-Err-clause-refused
 returns-in-Err-clause-refused g c =
     rw c.reopened.ensures.fault
-    (refuses c.into_inner-pool.result c.args.self.config c.args.seats.items c.in-Err.kept.fault
+    (refuses c.into_pool-pool.result c.args.self.config c.args.seats.items c.in-Err.kept.fault
     (rw c.as_slice.ensures.value at c.in_default.ensures) c.in-Err.ensures.refused)

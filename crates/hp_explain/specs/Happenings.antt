@@ -1,0 +1,75 @@
+-- Events that happen one after the other, and the text that tells of each.
+use Rattle.std.specs.Prelude.{◌≡◌, ℕ, suc, List, [], ◌∷◌, ◌++◌, map, Option}
+use Rattle.std.specs.Io.KnownBytes.{Appends}
+use Rattle.hp_base.specs.declared.event.Event.{Event}
+use Rattle.hp_core.specs.Runs.{Row}
+use Rattle.hp_core.specs.State.{CoreState}
+use Rattle.hp_machine.specs.declared.outcome.Outcome.{Outcome}
+use Rattle.hp_text.specs.Writing.{Wrote}
+use Rattle.hp_explain.specs.Waits.{AreHolders}
+
+-- A writer held `before`, and now holds `after`.
+
+-- an event, what came of it, the core that it led to, and whom each task waits for there
+pub record Happening : Type 0 where
+  pub event : Event
+  pub outcome : Outcome
+  pub core : CoreState
+  pub holders : List (Option ℕ)
+
+abbrev pub events_of : List Happening → List Event
+events_of list = map (λ h. h.event) list
+
+-- it is a row of the machine, and whom each task waits for behind it is known
+abbrev pub Happened : CoreState → Happening → Type 0
+Happened old h = Row old h.event h.outcome h.core × AreHolders h.core h.holders
+
+-- one after the other they happened, and lead from old to new
+abbrev pub Happens : CoreState → List Happening → CoreState → Type 0
+Happens old [] new = new ≡ old
+Happens old (h ∷ more) new = Happened old h × Happens h.core more new
+
+-- the text that tells of an event: of its line in the trace, of whom each task waited for before it, and of what happened
+abbrev pub Telling : Type 0
+Telling = (line : ℕ) → (waited : List (Option ℕ)) → Happening → List ℕ
+
+-- the texts of these lines, which begin with that one
+unfoldable pub texts_of : Telling → (line : ℕ) → (waited : List (Option ℕ)) → List Happening → List ℕ
+texts_of tell line waited [] = []
+texts_of tell line waited (h ∷ more) = tell line waited h ++ texts_of tell (suc line) h.holders more
+
+-- The event happened, and its text was written. Before it tasks waited for these holders, and behind it for those.
+pub record EventTold (tell : Telling) (line : ℕ) (event : Event) (old new : CoreState) (waited waits : List (Option ℕ))
+    (before after : Option (List ℕ)) : Type 0 where
+  pub happening : Happening
+  pub is_event : happening.event ≡ event
+  pub is_core : happening.core ≡ new
+  pub are_holders : happening.holders ≡ waits
+  pub happened : Happened old happening
+  pub wrote : Appends before after (tell line waited happening)
+
+-- the event happened, and a front of its text was written
+pub record EventPartlyTold (tell : Telling) (line : ℕ) (event : Event) (old : CoreState) (waited : List (Option ℕ))
+    (before after : Option (List ℕ)) : Type 0 where
+  pub happening : Happening
+  pub is_event : happening.event ≡ event
+  pub happened : Happened old happening
+  pub wrote : Wrote before after (tell line waited happening)
+
+-- these events happened, and their texts were written
+pub record EventsTold (tell : Telling) (line : ℕ) (events : List Event) (old new : CoreState) (waited : List (Option ℕ))
+    (before after : Option (List ℕ)) : Type 0 where
+  pub happenings : List Happening
+  pub are_events : events_of happenings ≡ events
+  pub happens : Happens old happenings new
+  pub wrote : Appends before after (texts_of tell line waited happenings)
+
+-- a front of them happened, and a front of their texts was written
+pub record EventsPartlyTold (tell : Telling) (line : ℕ) (events : List Event) (old : CoreState) (waited : List (Option ℕ))
+    (before after : Option (List ℕ)) : Type 0 where
+  pub happenings : List Happening
+  pub rest : List Event
+  pub new : CoreState
+  pub are_events : events_of happenings ++ rest ≡ events
+  pub happens : Happens old happenings new
+  pub wrote : Wrote before after (texts_of tell line waited happenings)

@@ -1,0 +1,4 @@
+mod Given
+mod Led
+mod Parts
+mod Tidied

@@ -1,0 +1,5 @@
+pub mod Asked
+pub mod Drafts
+pub mod Lines
+pub mod Loose
+pub mod Tidy

@@ -1,0 +1,143 @@
+//! What a line asks for.
+ghost use Rattle.std.specs.Prelude.{◌≡◌, Some, IfOk, IfSome};
+ghost use Rattle.hp_format.specs.Asked.{AreAsked, AreAskedOf, IsAsked, goal_word, step_verb};
+ghost use Rattle.hp_machine.specs.Text.{phase_word};
+ghost use Rattle.hp_text.specs.Reading.{event_at};
+
+use crate::tidying::tidy;
+use hp_base::{Event, Task};
+use hp_machine::Phase;
+use hp_text::{MOST_EVENTS, after_word, event_at, last_at, short_at};
+use std::alloc::AllocError;
+
+/// What steps are made until.
+#[derive(Clone, Copy, Debug, PartialEq, Eq)]
+pub enum Goal {
+    /// The call stands in that phase.
+    Stands(Phase),
+    /// The call has ended.
+    Ended,
+}
+
+/// What a line behind the header asks for.
+#[derive(Clone, Copy, Debug, PartialEq, Eq)]
+pub enum Asked {
+    /// Nothing: it is blank, or a comment alone.
+    Nothing,
+    /// The event, so many times, one after the other.
+    Times(Event, u32),
+    /// Steps of the task's call, the last of which is the first that reaches that.
+    Until(Task, Goal),
+}
+
+/// What steps are made until that is called so.
+fn goal_named(word: &[u8]) -> Option<Goal>
+    ensures { IfSome result (λ goal. goal_word goal ≡ word.now) }
+{
+    match word {
+        b"ended" => Some(Goal::Ended),
+        _ => Some(Goal::Stands(phase_named(word)?)),
+    }
+}
+
+/// The phase that is called so, as a replay prints it behind `moved`.
+pub fn phase_named(word: &[u8]) -> Option<Phase>
+    ensures { IfSome result (λ phase. phase_word phase ≡ word.now) }
+{
+    Some(match word {
+        b"start" => Phase::Start,
+        b"look" => Phase::Look,
+        b"want" => Phase::Want,
+        b"locked" => Phase::Locked,
+        b"missing" => Phase::Missing,
+        b"changed" => Phase::Changed,
+        b"abort" => Phase::Abort,
+        b"taken" => Phase::Taken,
+        b"settle" => Phase::Settle,
+        b"committed" => Phase::Committed,
+        b"restore" => Phase::Restore,
+        b"found" => Phase::Found,
+        b"leave" => Phase::Leave,
+        b"room" => Phase::Room,
+        b"accounted" => Phase::Accounted,
+        b"enter" => Phase::Enter,
+        b"head" => Phase::Head,
+        b"unslot" => Phase::Unslot,
+        b"extend" => Phase::Extend,
+        b"unmap" => Phase::Unmap,
+        b"evict" => Phase::Evict,
+        b"delete" => Phase::Delete,
+        b"free" => Phase::Free,
+        b"size" => Phase::Size,
+        b"tail" => Phase::Tail,
+        b"clear" => Phase::Clear,
+        b"drop" => Phase::Drop,
+        _ => return None,
+    })
+}
+
+/// The verb of a step, as memory is granted to it or denied.
+fn step_verb(granted: bool) -> &'static [u8]
+    ensures { result.now ≡ step_verb granted }
+{
+    if granted { b"step " } else { b"deny " }
+}
+
+/// Steps that are repeated, if the words are such.
+fn repeated_at(granted: bool, words: &[u8]) -> Option<Asked>
+    ensures { IfSome result (AreAsked words.now) }
+{
+    let (task, rest) = short_at(after_word(step_verb(granted), words)?)?;
+    let times = last_at(after_word(b" *", rest)?)?;
+    if times == 0 || times as usize > MOST_EVENTS {
+        return None;
+    }
+    Some(Asked::Times(Event::Step(Task::new(task), granted), times))
+}
+
+/// Steps until something is reached, if the words are such.
+fn until_at(words: &[u8]) -> Option<Asked>
+    ensures { IfSome result (AreAsked words.now) }
+{
+    let (task, rest) = short_at(after_word(b"step ", words)?)?;
+    let goal = goal_named(after_word(b" until ", rest)?)?;
+    Some(Asked::Until(Task::new(task), goal))
+}
+
+/// What words ask for that are no event.
+fn other_at(words: &[u8]) -> Option<Asked>
+    ensures { IfSome result (AreAsked words.now) }
+{
+    if words.is_empty() {
+        return Some(Asked::Nothing);
+    }
+    if let Some(asked) = repeated_at(true, words) {
+        return Some(asked);
+    }
+    if let Some(asked) = repeated_at(false, words) {
+        return Some(asked);
+    }
+    until_at(words)
+}
+
+/// What words ask for.
+fn words_ask(words: &[u8]) -> Option<Asked>
+    ensures { IfSome result (AreAskedOf (event_at words.now) words.now) }
+{
+    match event_at(words) {
+        Some(event) => Some(Asked::Times(event, 1)),
+        None => other_at(words),
+    }
+}
+
+/// What a line asks for, if it is one of the loose form. `words` is where its words are laid out.
+pub fn asked_of(line: &[u8], words: &mut Vec<u8>) -> Result<Option<Asked>, AllocError>
+    ensures asked { IfOk result (λ asked. IfSome asked (IsAsked line.now)) }
+    ensures strict { IfOk result (λ asked. IfSome (event_at line.now) (λ event. asked ≡ Some (Asked.Times event 1))) }
+{
+    if let Some(event) = event_at(line) {
+        return Ok(Some(Asked::Times(event, 1)));
+    }
+    tidy(line, words)?;
+    Ok(words_ask(words.as_slice()))
+}

@@ -1,0 +1,73 @@
+//! Writes the page of a trace.
+ghost use Rattle.std.specs.Prelude.{◌≡◌, ◌≤◌, OnOk, IfErr, IfSome, length};
+ghost use Rattle.std.specs.Io.KnownBytes.{Appends};
+ghost use Rattle.hp_base.specs.Text.{sizes};
+ghost use Rattle.hp_page.specs.Pages.{IsPage, NotPaged, WrotePage, WroteSomePage, head_text, tail_text};
+ghost use Rattle.hp_text.specs.Streams.{TellsReads, TellsWrites};
+ghost use Rattle.hp_text.specs.Traces.{HasFault};
+ghost use Rattle.hp_text.specs.Writing.{IsWriteFault, Wrote};
+
+use crate::front::FRONT;
+use crate::page_script::PAGE_SCRIPT;
+use crate::picture_script::PICTURE_SCRIPT;
+use crate::run_script::RUN_SCRIPT;
+use crate::tail::TAIL;
+use hp_explain::{View, write_objects};
+use hp_text::{MOST_EVENTS, ReplayFault, Sink, Source, Trace, read_trace, write_text};
+use std::alloc::Global;
+
+/// Writes what stands before the data.
+#[tactic(auto, unfolding(crate::specs::Pages::head_text))]
+fn write_head<W: Sink>(writer: &mut W) -> Result<(), ReplayFault>
+    ensures ok { OnOk result (Appends (W.contents writer.old) (W.contents writer.new) head_text) }
+    ensures err { IfErr result (λ fault. IsWriteFault fault × Wrote (W.contents writer.old) (W.contents writer.new) head_text) }
+    ensures writes { TellsWrites result (W.failures writer.old) (W.failures writer.new) }
+{
+    write_text(writer, FRONT.as_bytes())?;
+    write_text(writer, RUN_SCRIPT.as_bytes())?;
+    write_text(writer, PICTURE_SCRIPT.as_bytes())?;
+    write_text(writer, PAGE_SCRIPT.as_bytes())
+}
+
+/// Writes what stands behind them.
+#[tactic(auto, unfolding(crate::specs::Pages::tail_text))]
+fn write_tail<W: Sink>(writer: &mut W) -> Result<(), ReplayFault>
+    ensures ok { OnOk result (Appends (W.contents writer.old) (W.contents writer.new) tail_text) }
+    ensures err { IfErr result (λ fault. IsWriteFault fault × Wrote (W.contents writer.old) (W.contents writer.new) tail_text) }
+    ensures writes { TellsWrites result (W.failures writer.old) (W.failures writer.new) }
+{
+    write_text(writer, TAIL.as_bytes())
+}
+
+/// Runs the trace, and writes its page: the head, the run's objects of JSON, a line each, and the tail. The objects have no `<`, so the
+/// element in which they stand ends where the tail begins. Nothing is tried again after an error.
+pub fn write_page<W: Sink>(alloc: Global, trace: &Trace, writer: &mut W) -> Result<(), ReplayFault>
+    requires { length trace.now.events.items ≤ MOST_EVENTS }
+    ensures ok { OnOk result (WrotePage (sizes trace.now.config) trace.now.events.items
+        (W.contents writer.old) (W.contents writer.new)) }
+    ensures err { IfErr result (λ fault. IsWriteFault fault × WroteSomePage (sizes trace.now.config) trace.now.events.items
+        (W.contents writer.old) (W.contents writer.new)) }
+    ensures writes { TellsWrites result (W.failures writer.old) (W.failures writer.new) }
+{
+    write_head(writer)?;
+    write_objects(alloc, &View::whole(), trace, writer)?;
+    write_tail(writer)
+}
+
+/// Reads the trace that the bytes spell, all of it, and then writes its page.
+pub fn page<R: Source, W: Sink>(
+    alloc: Global,
+    reader: &mut R,
+    writer: &mut W,
+) -> Result<(), ReplayFault>
+    ensures ok { OnOk result (IsPage (R.remaining reader.old) (R.remaining reader.new)
+        (W.contents writer.old) (W.contents writer.new)) }
+    ensures err { IfErr result (λ fault. NotPaged fault (R.remaining reader.old) (R.remaining reader.new)
+        (W.contents writer.old) (W.contents writer.new)) }
+    ensures bad { IfErr result (λ fault. IfSome (R.remaining reader.old) (λ bytes. HasFault bytes fault)) }
+    ensures reads { TellsReads result (R.failures reader.old) (R.failures reader.new) }
+    ensures writes { TellsWrites result (W.failures writer.old) (W.failures writer.new) }
+{
+    let trace = read_trace(alloc, reader)?;
+    write_page(alloc, &trace, writer)
+}

@@ -1,0 +1,75 @@
+#!/usr/bin/env node
+// Tries the page's functions that read a run and search it, on a run that is written out here. The last line is 'N passed, M failed'.
+import fs from "node:fs";
+import vm from "node:vm";
+
+const PAGE = new URL("../crates/hp_page/page/", import.meta.url);
+const NAMES = "readRun, standingAt, waitAt, lifeAt, findEvents, nextMatch, rangeOf, seriesOf, eventAt, eventWords, outcomeWords, waitWords";
+const source = ["run.js", "search.js"].map((name) => fs.readFileSync(new URL(name, PAGE), "utf8")).join("");
+const page = vm.runInThisContext(`"use strict";(() => {${source}; return { ${NAMES} }; })()`);
+const { readRun, standingAt, waitAt, lifeAt, findEvents, nextMatch, rangeOf, seriesOf, eventAt, eventWords, outcomeWords, waitWords } = page;
+
+// task 1 maps, and holds the lock of file 0; task 2's truncation waits for it; then a resize, a kill, a refusal and a store of a long word
+const COUNTS = '"free":4,"resv":0,"owed":0';
+const LINES = [
+  '{"pool":{"frames":4,"files":1,"slots":4,"tasks":2}}',
+  `{"line":2,"task":1,"event":"begin","op":"map","numbers":[0,0,4],"outcome":"begun","at":"start","holds":{},"wants":{"lock":0},"owes":0,${COUNTS}}`,
+  `{"line":3,"task":1,"event":"step","outcome":"moved","phase":"room","linux":"get_unmapped_area","at":"room","holds":{"lock":0},"wants":{},"owes":0,${COUNTS}}`,
+  `{"line":4,"task":2,"event":"begin","op":"trunc","numbers":[0,1],"outcome":"begun","at":"start","holds":{},"wants":{"lock":0},"owes":0,${COUNTS},"waits":[{"task":2,"for":1,"lock":0}]}`,
+  `{"line":5,"task":2,"event":"step","outcome":"blocked","by":1,"at":"start","holds":{},"wants":{"lock":0},"owes":0,${COUNTS}}`,
+  `{"line":6,"event":"resize","frames":6,"outcome":"resized","number":6,"free":6,"resv":2,"owed":-1}`,
+  `{"line":7,"task":2,"event":"kill","outcome":"marked","at":"start","holds":{},"wants":{},"owes":0,${COUNTS},"waits":[{"task":2,"for":null}]}`,
+  `{"line":8,"task":2,"event":"step","outcome":"ended","answer":"killed",${COUNTS}}`,
+  `{"line":9,"task":9,"event":"step","outcome":"refused","reason":"notalive",${COUNTS}}`,
+  `{"line":10,"task":1,"event":"begin","op":"store","numbers":[0,18446744073709551615],"outcome":"refused","reason":"incall","at":"room","holds":{"lock":0},"wants":{},"owes":0,${COUNTS}}`,
+  '{"end":{"calls":1,"free":4}}',
+];
+
+let passed = 0;
+let failed = 0;
+
+function expect(what, is, wanted) {
+  const [one, other] = [JSON.stringify(is), JSON.stringify(wanted)];
+  if (one === other) passed++;
+  else {
+    failed++;
+    console.log(`  page: ${what}: ${one}, not ${other}`);
+  }
+}
+
+const run = readRun(`\n${LINES.join("\n")}\n`);
+const [pool, one, two] = run.lanes;
+const row = (at) => `${eventWords(eventAt(run, at))}: ${outcomeWords(eventAt(run, at))}`;
+
+expect("a run", [run.count, run.end.calls, run.lanes.map((lane) => lane.name)], [9, 1, ["pool", "task 1", "task 2"]]);
+expect("rows", [0, 1, 3, 4, 6, 7].map(row), [
+  "begin 1 map 0 0 4: begun", "step 1: moved room", "step 2: blocked by 1: lock of file 0", "resize 6: resized 6", "step 2: ended killed", "step 9: refused notalive",
+]);
+expect("a word of 64 bits", row(8), "begin 1 store 0 18446744073709551615: refused incall");
+expect("a call's stays", [one.stays.since, one.stays.until, one.stays.phase], [[0, 1], [1, 9], ["start", "room"]]);
+expect("a call that is over, and one that isn't", [two.calls.isOver, one.calls.isOver], [[true], [false]]);
+expect("where a call stands later", standingAt(run, one, 5).holds, { lock: 0 });
+expect("where a call stands that has ended", [standingAt(run, two, 5).phase, standingAt(run, two, 6)], ["start", null]);
+expect("a wait", [1, 2, 4, 5].map((at) => waitAt(run, two, at)?.holder ?? null), [null, 1, 1, null]);
+expect("its words", waitWords(waitAt(run, two, 4)), "task 2 waits for 1: lock of file 0");
+expect("lives", [lifeAt(two, 4), lifeAt(two, 5), lifeAt(one, 8)], ["alive", "killed", "alive"]);
+expect("marks", [two.marks.blocked, two.marks.killed, two.marks.failed, pool.marks.resized, pool.marks.refused], [[3], [5], [6], [4], [7]]);
+expect("reserved without a page", run.columns.bare[4], 3);
+
+for (const [query, found] of Object.entries({
+  "task 2": [2, 3, 5, 6], trunc: [2], "of trunc": [2, 3, 5, 6], "task 2 blocked": [3], get_unmapped_area: [1], inode_lock: [], incall: [8], waits: [2, 5],
+  "line 6": [4], "6": [4], nothing: [], "": [],
+})) expect(`find ${query}`, findEvents(run, query), found);
+expect("a number is missing", findEvents(run, "task"), null);
+expect("from match to match", [nextMatch([2, 5], 2, true), nextMatch([2, 5], 5, true), nextMatch([2, 5], 2, false), nextMatch([], 0, true)], [5, 2, 5, -1]);
+
+const values = Int32Array.from({ length: 1000 }, (_, at) => (at * 7919) % 1009);
+const series = seriesOf(values);
+const isRight = (from, to) => rangeOf(series, from, to).join() === [Math.min(...values.slice(from, to)), Math.max(...values.slice(from, to))].join();
+expect("the least and the greatest", [[0, 1000], [63, 64], [60, 200], [64, 128], [999, 1000]].every(([from, to]) => isRight(from, to)), true);
+
+const cut = readRun(LINES.slice(0, 5).join("\n").slice(0, -30));
+expect("data that are cut", [cut.count, cut.end], [3, null]);
+expect("data that are none", [readRun(""), readRun("{\n"), readRun("[]\n")], [null, null, null]);
+console.log(`${passed} passed, ${failed} failed`);
+process.exit(failed > 0 ? 1 : 0);
