@@ -26,8 +26,8 @@ usage: ./check [STEP] [..]
   ./check quick      before a commit: the format of changed texts; proofs and tests of what changed; whether each mutant applies;
                      names in documents, calls and clauses in docs/PROVED.md, and what scripts write there
 
-First it lists the commands that are missing. At the end it prints what each step took, and what was left out.
-The last line is 'N passed, M failed'.
+First it lists the commands that are missing. At the end it prints what each step took, what was left out, and of each script that
+failed its last lines once more. The last line is 'N passed, M failed'.
 """
 from __future__ import annotations
 
@@ -39,6 +39,7 @@ import signal
 import subprocess
 import sys
 import tempfile
+from collections import deque
 from concurrent.futures import ThreadPoolExecutor
 from itertools import groupby
 from pathlib import Path
@@ -128,6 +129,8 @@ WHOLE = ("ci", "edits", "examples", "refusals", "linux", "library")
 MANY, AT_A_TIME = 12, 2
 PIPED = {"stdin": subprocess.DEVNULL, "stdout": subprocess.PIPE, "stderr": subprocess.STDOUT, "text": True, "errors": "replace"}
 COUNTS = re.compile(r"^(?:[\w ]+: )?(\d+) passed, (\d+) failed$")
+# of a script that failed, so many of its last lines are repeated at the end
+REPEATED = 20
 
 
 def path_of(script: str) -> str:
@@ -151,9 +154,10 @@ class Gate:
 
     def __init__(self, steps: Iterable[str], lacking: Iterable[str] = ()) -> None:
         self.steps, self.lacking = list(steps), {script: command for command in lacking for script in NEEDS[command][1]}
-        self.passed, self.failed, self.left_out = 0, 0, []
+        self.passed, self.failed, self.left_out, self.wrong = 0, 0, [], []
         each = ((step, script) for step in self.steps for script in SCRIPTS[step])
         self.times = Times(it for it in each if path_of(it[1]) not in self.lacking)
+        self.recent: deque[str] = deque(maxlen=REPEATED)
 
     def script(self, step: str, script: str, *more: str) -> bool:
         """Runs a script of the repository, unless a command that it needs is missing, and returns whether it ended well."""
@@ -170,8 +174,19 @@ class Gate:
         return self.timed(step, script, lambda: self.follow(words))
 
     def timed(self, step: str, script: str, does: Callable[[], bool]) -> bool:
+        """Runs a script, and keeps its last lines where it fails."""
+        self.recent.clear()
+        before = self.failed
         with self.times.running(step, script):
-            return does()
+            has_passed = does()
+        if self.failed > before:
+            self.wrong += [f"check: {step}: {script} failed; its last lines:\n", *self.recent]
+        return has_passed
+
+    def lines(self, text: str) -> None:
+        """Prints lines of a script, and recalls the last."""
+        self.recent.extend(text.splitlines(keepends=True))
+        self.times.line(text)
 
     def follow(self, words: list[str]) -> bool:
         """Passes a command's lines on, and adds up its lines 'N passed, M failed'. A command that counts nothing is one that passed or
@@ -179,7 +194,7 @@ class Gate:
         counts = []
         with subprocess.Popen(words, cwd=TOP, **PIPED) as ran:
             for line in ran.stdout:
-                self.times.line(line)
+                self.lines(line)
                 if made := COUNTS.match(line.rstrip("\n")):
                     counts.append((int(made[1]), int(made[2])))
         failed = sum(it for _, it in counts)
@@ -194,8 +209,9 @@ class Gate:
         return all(have_passed)
 
     def tell(self) -> int:
-        """Prints what the steps took, what was left out, and the counts, and returns the status."""
-        self.times.line("".join(f"{it}\n" for it in [*self.times.table(), *self.left_out, f"{self.passed} passed, {self.failed} failed"]))
+        """Prints what the steps took, what was left out, what failed, and the counts, and returns the status."""
+        told = "".join(f"{it}\n" for it in (*self.times.table(), *self.left_out))
+        self.times.line(f"{told}{''.join(self.wrong)}{self.passed} passed, {self.failed} failed\n")
         return 1 if self.failed else 0
 
 
@@ -237,7 +253,7 @@ def proofs_and_tests(gate: Gate) -> bool:
         return False
     have_passed = gate.count(at_once(os.cpu_count() or 1, sorted(tests), lambda name: run_rt(gate, "test", name, seen, [PROOFS, TESTS])))
     bad = [f"  {name}/{it.name}: {it.why}\n" for name in seen.known for it in mutants_of(TOP / "crates" / name)[1]]
-    gate.times.line("".join(bad))
+    gate.lines("".join(bad))
     gate.failed += len(bad)
     return have_passed and not bad
 
@@ -279,7 +295,7 @@ def at_once(most: int, names: Iterable[str], does: Callable[[str], bool]) -> lis
 def run_rt(gate: Gate, command: str, name: str, seen: Marks, shown: list[str]) -> bool:
     """Has the toolchain check a crate, or run its tests, and returns whether that passed. Then it has shown this of the crate."""
     ran = subprocess.run(["rt", command], cwd=TOP / "crates" / name, **PIPED)
-    gate.times.line(f"== {name}: {' and '.join(shown)}\n{ran.stdout}")
+    gate.lines(f"== {name}: {' and '.join(shown)}\n{ran.stdout}")
     for what in shown if ran.returncode == 0 else ():
         seen.note(name, what)
     return ran.returncode == 0

@@ -31,6 +31,11 @@ COMMANDS = [
     ("echo 'it: 3 passed, 2 failed' >&2; exit 1", (3, 2, False)),
     ("echo 'of these 3 passed, 2 failed or so'", (1, 0, True)),
 ]
+# a command that fails, and what ./check prints at its end of it and of 30 lines before
+FAILS = "echo '  not so: one'; echo 'it: 3 passed, 1 failed'"
+REPEATED = "\n".join(
+    ["check: linux: it.py failed; its last lines:", *map(str, range(13, 31)), "  not so: one", "it: 3 passed, 1 failed", "3 passed, 1 failed", ""]
+)
 # the toolchain's module, as far as marks.py uses it
 TOOLCHAIN = '''
 import os
@@ -58,6 +63,15 @@ def counted(command: str) -> tuple[int, int, bool]:
     gate = check.Gate([])
     ended_well = silently(gate.follow, ["bash", "-c", command])
     return gate.passed, gate.failed, ended_well
+
+
+def told(command: str) -> str:
+    """What ./check prints at its end where this is its one script."""
+    gate, printed = check.Gate([]), io.StringIO()
+    silently(gate.run, "linux", "it.py", ["bash", "-c", command])
+    with contextlib.redirect_stdout(printed):
+        gate.tell()
+    return printed.getvalue().partition("\nlinux ")[2].partition("\n")[2]
 
 
 def status(words: list[str], passed: int, failed: int) -> int:
@@ -190,6 +204,8 @@ def tries() -> Iterator[tuple[str, bool]]:
     """What is tried, and whether it went as it should."""
     for command, wanted in COMMANDS:
         yield f"./check counts {command!r}", counted(command) == wanted
+    yield "what failed is repeated at the end, as far as it is recalled", [told(f"seq 30; {FAILS}{it}") for it in ("", "; exit 1")] == [REPEATED, REPEATED]
+    yield "what passed isn't", told("echo passed") == "1 passed, 0 failed\n"
     yield "a step that passes ends with 0", status(["linux"], 3, 0) == 0
     yield "one that fails doesn't", status(["linux"], 3, 1) == 1
     yield "a word that is no step is refused", status(["linus"], 3, 0) == 2 and status(["linux", "more"], 3, 0) == 2

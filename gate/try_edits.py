@@ -208,9 +208,8 @@ def chosen(marks: MutantMarks, is_all: bool) -> set[str]:
     return picked
 
 
-def report(tried: Tried, is_each_told: bool) -> None:
-    lines = [f"  {tried.name}/{it.name}: {it.why}" for it in sorted(tried.results, key=lambda it: it.name) if is_each_told or not it.is_refused]
-    print("\n".join([tried.line(), *lines]), flush=True)
+def lines_of(tried: Tried, is_each_told: bool) -> list[str]:
+    return [f"  {tried.name}/{it.name}: {it.why}" for it in sorted(tried.results, key=lambda it: it.name) if is_each_told or not it.is_refused]
 
 
 def main() -> int:
@@ -224,19 +223,20 @@ def main() -> int:
         words.error(f"crates.txt has no crate {unknown[0]}")
     marks = MutantMarks()
     picked = set(given.crates) & set(marks.marks) if given.crates else chosen(marks, given.all)
-    refused = faults = 0
+    refused, faults = 0, []
     try:
         build_libraries(TOP, picked)
     except NotProved as error:
         print(f"check: the libraries below {error} aren't proved, so no mutant was tried")
         return 1
     for tried in try_crates(TOP, picked, given.all):
-        report(tried, given.each)
-        wrong = sum(not it.is_refused for it in tried.results)
-        refused, faults = refused + len(tried.results) - wrong, faults + wrong
+        print("\n".join([tried.line(), *lines_of(tried, given.each)]), flush=True)
+        wrong = lines_of(tried, False)
+        refused, faults = refused + len(tried.results) - len(wrong), faults + wrong
         if not wrong:
             marks.record(tried.name)
-    print(f"edits: {refused} passed, {faults} failed")
+    # (once more, since the lines of other crates may stand behind them)
+    print("\n".join([*faults, f"edits: {refused} passed, {len(faults)} failed"]))
     return 1 if faults else 0
 
 
