@@ -58,3 +58,32 @@ pub(crate) fn hint_format<R: Recalls>(
 
 const LOOSE: &[u8] =
     b"hugepool: hugepool format accepts this line, and prints a trace that this command accepts\n";
+
+// More lines than are ever recalled.
+const LINES: u64 = 1_000;
+
+// Whether each event begins a call. Of a trace whose first events aren't recalled any more that isn't known, and the answer is no.
+fn begins_alone<R: Recalls>(reader: &R) -> bool {
+    for number in 2..LINES {
+        match reader.line(number) {
+            Some(line) if line.bytes.starts_with(b"begin ") => (),
+            Some(line) => return number > 2 && line.bytes.is_empty(),
+            None => return number > 2,
+        }
+    }
+    false
+}
+
+/// Names the commands that run a script, if a trace was shown that has begins alone.
+pub(crate) fn hint_script<R: Recalls>(
+    answer: &Result<(), Stop>,
+    reader: &R,
+    faults: &mut impl Write,
+) {
+    if answer.is_ok() && begins_alone(reader) {
+        let _ = faults.write_all(SCRIPT);
+    }
+}
+
+const SCRIPT: &[u8] =
+    b"hugepool: no event is a step; if this is a script, hugepool explore and hugepool schedule run it\n";

@@ -15,7 +15,7 @@ use crate::explaining::run_explain;
 use crate::exploring::run_explore;
 use crate::finding::run_find;
 use crate::formatting::run_format;
-use crate::hinting::hint_format;
+use crate::hinting::{hint_format, hint_script};
 use crate::minimizing::run_minimize;
 use crate::objects::run_explain_json;
 use crate::paging::run_page;
@@ -117,11 +117,14 @@ fn carry_out<H: Clock + Files + Threads + Wait + Sync, R: Source + Recalls, W: W
     ensures none { IfErr asked (λ error. EndsWith result.0 (λ answer. AnsweredNone error answer (R.remaining reader.old)
         (R.remaining reader.new) (R.failures reader.old) (R.failures reader.new) (W.contents out) (option_map W.contents result.1))) }
 {
-    let reads_trace = reads_trace(&asked);
+    let (reads_trace, shows_run) = (reads_trace(&asked), shows_run(&asked));
     let (answer, out) = answer(rt, alloc, asked, reader, out, faults);
     let status = end(&answer, &*reader, faults);
     if reads_trace {
         hint_format(alloc, &answer, &*reader, faults);
+    }
+    if shows_run {
+        hint_script(&answer, &*reader, faults);
     }
     (status, out)
 }
@@ -139,6 +142,14 @@ fn reads_trace(asked: &Result<Request, clap::Error>) -> bool {
                 | Request::Page
                 | Request::Minimize(_)
         )
+    )
+}
+
+// Whether it is shown how a trace runs.
+fn shows_run(asked: &Result<Request, clap::Error>) -> bool {
+    matches!(
+        asked,
+        Ok(Request::Replay | Request::Explain(_) | Request::Draw | Request::Page)
     )
 }
 

@@ -83,9 +83,13 @@ fn first_difference(ours: &[u8], theirs: &[u8]) -> String {
 // The line that ours adds where the line that is wrong would be right in the loose form of a trace.
 const HINT: &[u8] = b"hugepool: hugepool format accepts this line, and prints a trace that this command accepts\n";
 
+// What ours says where each event of a trace begins a call.
+const SCRIPT: &[u8] = b"hugepool: no event is a step; if this is a script, hugepool explore and hugepool schedule run it\n";
+
 // Those of our complaints that the other program has to print, too: all but the one line that says, behind the number of a wrong line,
-// what is wrong with it, and a hint behind that line. Nothing where the line with the reason is missing.
+// what is wrong with it, and the hints. Nothing where the line with the reason is missing.
 fn without_reason(ours: &[u8]) -> Option<&[u8]> {
+    if ours == SCRIPT { return Some(&[]); }
     if !ours.starts_with(b"hugepool: line ") { return Some(ours); }
     let end = ours.iter().position(|it| *it == b'\n')? + 1;
     let (first, reason) = ours.split_at(end);
