@@ -48,8 +48,8 @@ OUTCOMES = "".join(
         *(("kill 3", 1), ("step 3", 1), ("resize 0", 1), ("step 9", 1)),
     )
 )
-# a run of it has so many turns that the next part has no more runs: each call has two
-LONG = EMPTY + "begin 1 load 0\n" * 3_907
+# a run of these calls has so many turns that behind 1,024 of them the next part has no more, in a pool of 4 tasks: each has two
+CALLS = "begin 1 load 0\n" * 3_907
 
 
 def example(name: str) -> str:
@@ -258,7 +258,8 @@ def tries(program: Path) -> Iterator[tuple[str, bool]]:
     """What is tried, and whether it went as it should."""
     yield "runs are written a part at a time, of 16 first", writes("explore --runs 17", EMPTY) == [16, 1]
     yield "the next part has four times as many", writes("explore --runs 81", EMPTY) == [16, 64, 1]
-    yield "but where runs are long as many", writes("explore --runs 2385", LONG) == [16, 64, 256, 1024, 1024, 1]
+    yield "but where runs are long as many", writes("explore --runs 2385", f"pool 1 1 1 4\n{CALLS}") == [16, 64, 256, 1024, 1024, 1]
+    yield "of fewer tasks they may be longer", writes("explore --runs 2385", EMPTY + CALLS) == [16, 64, 256, 1024, 1025]
     # (what the program's buffer holds, and the lines of a piece that is read, may be to come)
     some = EMPTY + "step 1\n" * 50_000
     enough = len("refused idle\n") * 50_000 - 32_768

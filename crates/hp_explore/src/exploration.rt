@@ -33,8 +33,9 @@ pub struct Exploration {
 const FIRST_PART: u32 = 16;
 /// How many lines are kept at most until they are written.
 const MOST_PART: u32 = 16_384;
-/// A part of fewer turns is soon done.
-const SOON: u32 = 4_000_000;
+/// A part of fewer turns is soon done, in a pool of one task. Whose turn it is, is asked of each task: so the more tasks, the longer
+/// a turn takes.
+const SOON: u32 = 16_000_000;
 /// How many times as many runs the next part has where one was soon done.
 const GROWTH: u32 = 4;
 
@@ -128,15 +129,16 @@ fn are_shorter(lines: &[RunLine], turns: u32) -> bool
 
 /// How many runs the next part has: more, where each was so short that all were soon done. To begin the threads of a part takes
 /// as long as hundreds of short runs.
-fn next_part(part: u32, lines: &[RunLine]) -> u32
+fn next_part(part: u32, tasks: u32, lines: &[RunLine]) -> u32
     requires some { 0 < part }
     requires most { part ≤ MOST_PART }
-    ensures grows { result ≡ (if list_all (λ line. nat_lt line.turns (SOON / part)) lines.now
+    requires tasks { 0 < tasks }
+    ensures grows { result ≡ (if list_all (λ line. nat_lt line.turns (SOON / tasks / part)) lines.now
         then min (part * GROWTH) MOST_PART else part) }
     ensures some { 0 < result }
     ensures most { result ≤ MOST_PART }
 {
-    if are_shorter(lines, SOON / part) {
+    if are_shorter(lines, SOON / tasks / part) {
         (part * GROWTH).min(MOST_PART)
     } else {
         part
@@ -197,7 +199,7 @@ pub fn write_explored<W: Sink>(
     let mut lines = explore_runs(rt, alloc, script, plan, exploration, 0, explored)?;
     let mut finished = are_finished(lines.as_slice());
     while explored < exploration.runs {
-        part = next_part(part, lines.as_slice());
+        part = next_part(part, script.config.tasks, lines.as_slice());
         let runs = (exploration.runs - explored).min(part);
         let before = lines.as_slice();
         lines = explore_beside(

@@ -98,7 +98,8 @@ pub fn find(
         if let Some(found) = search_part(rt, alloc, part, &turns)? {
             return Ok(Some(found));
         }
-        size = next_part(size, MOST_PART, turns.swap(0, Ordering::SeqCst));
+        let made = turns.swap(0, Ordering::SeqCst);
+        size = next_part(size, MOST_PART, script.config.tasks, made);
         first += count;
         progress.explored(first, hunt.limit);
     }

@@ -123,7 +123,8 @@ pub fn summarize(
             count,
         };
         count_batch(rt, alloc, batch, &mut tally)?;
-        part = next_part(part, MOST_PART, turns_since(tally.turns.as_slice(), first));
+        let made = turns_since(tally.turns.as_slice(), first);
+        part = next_part(part, MOST_PART, script.config.tasks, made);
         first += count;
         progress.explored(first, survey.runs);
     }
