@@ -2,6 +2,8 @@
 //!
 //! What is proved of a race holds whoever waits for whom, since a thread that waits makes no hold. That the waits of a script are kept
 //! is tested of races that are printed as traces.
+ghost use Rattle.std.specs.Prelude.{◌≡◌, ◌<◌, ◌≤◌, ◌+◌, None, IfSome, length};
+
 use hp_base::{Op, Task};
 use hp_text::{Script, Wait as Awaited};
 use std::alloc::{AllocError, Global};
@@ -18,17 +20,27 @@ pub(crate) struct Need {
 }
 
 // The place of the task, from 0, where it is one of so many.
-fn place_among(task: Task, tasks: usize) -> Option<usize> {
+fn place_among(task: Task, tasks: usize) -> Option<usize>
+    ensures some { IfSome result (λ place. (place < tasks) × (place + 1 ≡ task)) }
+    ensures none { result ≡ None → 1 ≤ task → ¬ (task ≤ tasks) }
+{
     let place = (task.number() as usize).checked_sub(1)?;
     if place < tasks { Some(place) } else { None }
+}
+
+// Counts a call for its task, where it is one of so many.
+fn count_call(counts: &mut [usize], task: Task)
+    ensures { length counts.new ≡ length counts.old }
+{
+    if let Some(place) = place_among(task, counts.len()) {
+        counts[place] = counts[place].saturating_add(1);
+    }
 }
 
 // Counts these calls, each for its task.
 fn count_calls(counts: &mut [usize], calls: &[(Task, Op)]) {
     for (task, _) in calls {
-        if let Some(place) = place_among(*task, counts.len()) {
-            counts[place] = counts[place].saturating_add(1);
-        }
+        count_call(counts, *task);
     }
 }
 
@@ -83,6 +95,14 @@ pub(crate) struct Board {
     moved: Condvar,
 }
 
+// The task has ended so many calls.
+fn note_ended(ended: &mut [usize], task: Task, calls: usize) {
+    if let Some(place) = place_among(task, ended.len()) {
+        ended[place] = calls;
+    }
+}
+
+// Whether the need is met where the tasks have ended so many calls. Nobody waits for a task that isn't there.
 fn is_met(ended: &[usize], need: Need) -> bool {
     match ended.get(need.place) {
         Some(calls) => *calls >= need.calls,
@@ -111,12 +131,9 @@ impl Board {
         );
     }
 
-    // The task has ended so many calls.
     fn note<R: Wait>(&self, rt: &R, task: Task, calls: usize) {
         let mut ended = self.ended.lock(rt);
-        if let Some(place) = place_among(task, ended.len()) {
-            ended[place] = calls;
-        }
+        note_ended(ended.as_mut_slice(), task, calls);
         self.moved.notify_all();
     }
 }
