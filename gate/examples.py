@@ -18,8 +18,9 @@ import re
 import shlex
 import sys
 import tempfile
+from collections import Counter
 from pathlib import Path
-from typing import Iterator
+from typing import Iterator, NamedTuple
 
 import objects
 import pictures
@@ -38,6 +39,16 @@ RACES = 20
 CUTS = ("", *(f" --cut {calls}" for calls in range(1, 7)))
 # by which chances steps are denied and tasks killed in some of the races
 CHANCES = " --deny 50 --kill 200"
+
+
+class Need(NamedTuple):
+    """A call of a task, by its number, and how many calls each of some others ends before."""
+
+    task: str
+    number: int
+    ended: dict[str, int]
+
+
 RACED = re.compile(r"run \d+ closed entries \d+ free \d+ resv \d+")
 
 
@@ -112,11 +123,61 @@ def script_tries(program: Path, name: str) -> Iterator[tuple[str, bool]]:
         yield f"{name}: {words}: the replay of its first run ends with {counts}", f"\nfree {counts} calls 0" in replayed
     for options in (*CUTS, CHANCES, f"{CHANCES} --cut 2"):
         ran = run(program, f"race --times {RACES}{options}", script)
-        if script.startswith("script "):
+        if script.startswith("script ") and " --cut " in options:
             yield f"{name}: race{options} takes no script whose calls wait", (ran.status, ran.out) == (1, "")
             continue
         fault = race_fault(ran)
         yield f"{name}: race{options}: {fault}", not fault
+    if script.startswith("script "):
+        yield from waits_tries(program, name, script)
+
+
+def waits_tries(program: Path, name: str, script: str) -> Iterator[tuple[str, bool]]:
+    """Whether races as traces keep the script's waits; and a trace in which a call doesn't wait is noticed."""
+    needs, traces = needs_of(script), [output(program, "race --trace", script) for _ in range(RACES)]
+    yield f"{name}: races keep its waits", all(keeps(needs, it) for it in traces)
+    waiting = next(it for it in needs if it.ended)
+    yield f"{name}: a call that doesn't wait is noticed", not any(keeps(needs, without_wait(it, waiting)) for it in traces)
+
+
+def needs_of(script: str) -> list[Need]:
+    """What the calls of a script need, in the order of its lines."""
+    made, needs, ended = Counter(), [], {}
+    for word, task in (line.split(" ")[:2] for line in script.splitlines()[1:]):
+        if word == "after":
+            ended[task] = made[task]
+            continue
+        needs.append(Need(task, made[task], ended))
+        made[task] += 1
+        ended = {}
+    return needs
+
+
+def keeps(needs: list[Need], trace: str) -> bool:
+    """Whether each call of a trace begins once the calls that it needs have ended."""
+    events = [tuple(line.split(" ")[:2]) for line in trace.splitlines()[1:]]
+    wanted, begun = {(it.task, it.number): it.ended for it in needs}, Counter()
+    for place, (word, task) in enumerate(events):
+        if word != "begin":
+            continue
+        for other, calls in wanted[task, begun[task]].items():
+            if begun[other] < calls or begun[other] == calls and steps_on(events[place:], other):
+                return False
+        begun[task] += 1
+    return bool(events)
+
+
+def steps_on(events: list[tuple[str, str]], task: str) -> bool:
+    """Whether the first of the task's events is a step: its call hasn't ended."""
+    return next((word for word, other in events if other == task), "begin") in ("step", "deny")
+
+
+def without_wait(trace: str, need: Need) -> str:
+    """A trace in which that call begins before all else."""
+    header, *events = trace.splitlines()
+    begins = [place for place, line in enumerate(events) if line.startswith(f"begin {need.task} ")]
+    early = events.pop(begins[need.number])
+    return "\n".join([header, early, *events])
 
 
 def race_fault(ran: Ran) -> str | None:

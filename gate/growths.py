@@ -241,6 +241,7 @@ def cases() -> list[Case]:
         raced("race --times 2", script)._replace(lines=2),
         raced("race --times 1 --cut 2", script),
         raced("race --times 1 --deny 100 --kill 200", script),
+        raced("race --times 1", example("truncate-after-store.script")),
         explored("explore --summary --runs 3 --deny 100 --kill 10", script),
         *(plain(words, LOOSE) for words in ("format", "step")),
         raced("race --times 1", crowd(12)),

@@ -58,7 +58,7 @@ SAID_OF_HEADERS = [
     ("pool 4 1 4 1 65537", "the header gives 65537 quota pages; a pool has 0 to 65536"),
     ("step 1", "a header begins with pool, not with step"),
     ("pool 4 1 4 x", "x is not a number"),
-    ("script 4 1 4 1", "only explore, schedule and find accept a script whose header begins with script"),
+    ("script 4 1 4 1", "only explore, schedule, find and race without --cut accept a script whose header begins with script"),
     ("script 0 1 4 1", "the header gives 0 frames; a pool has 1 to 4096"),
 ]
 

@@ -70,7 +70,7 @@ impl fmt::Display for Reason<'_> {
             Reason::NoBegin => f.write_str("every event of a script must be a begin"),
             Reason::Waits => {
                 f.write_str(
-                    "only explore, schedule and find accept a script whose header begins with script",
+                    "only explore, schedule, find and race without --cut accept a script whose header begins with script",
                 )
             }
             Reason::NoWaits => {

@@ -9,6 +9,7 @@ ghost use Rattle.hp_race.specs.Racers.{HasMadeIn, HasRun, HasStrayedIn, IsNew, I
 use crate::call_range::CallRange;
 use crate::chances::{Chances, Draws, stream};
 use crate::starting_line::{Course, StartingLine};
+use crate::waiting::{Board, Need, Turns, needs_of, own_needs};
 use hp_base::{Event, Op};
 use hp_core::Refusal;
 use hp_shared::{CallFault, Halting, Hold, Reply, Seat, Shared, call};
@@ -42,6 +43,7 @@ pub(crate) struct Track<'a, L: Ledger> {
 pub(crate) struct Racer<L: Ledger> {
     pub(crate) seat: Seat<L>,
     pub(crate) calls: Vec<Op>,
+    pub(crate) needs: Vec<Need>,
     pub(crate) ending: Ending,
 }
 
@@ -74,7 +76,7 @@ fn may_end(mortal: bool, gone: bool, reply: Reply, before: usize, after: usize) 
 fn strike<L: Ledger, R: Wait>(
     rt: &R,
     hold: &Halting<'_, L>,
-    course: &Course,
+    course: &Course<'_>,
     seat: &mut Seat<L>,
 ) -> Result<(), CallFault>
     ensures task { seat.new.task ≡ seat.old.task }
@@ -91,7 +93,7 @@ fn strike<L: Ledger, R: Wait>(
 fn make_call<L: Ledger, R: Wait>(
     rt: &R,
     hold: &Halting<'_, L>,
-    course: &Course,
+    course: &Course<'_>,
     seat: &mut Seat<L>,
     gone: bool,
     op: Op,
@@ -118,7 +120,7 @@ fn make_call<L: Ledger, R: Wait>(
 fn make_calls<L: Ledger, R: Wait>(
     rt: &R,
     hold: &Halting<'_, L>,
-    course: &Course,
+    course: &Course<'_>,
     seat: &mut Seat<L>,
     had_exited: bool,
     calls: &[Op],
@@ -129,11 +131,15 @@ fn make_calls<L: Ledger, R: Wait>(
 {
     let mut gone = had_exited;
     for op in calls {
+        if !course.come(rt) {
+            return Ending::Memory;
+        }
         match make_call(rt, hold, course, seat, gone, *op) {
             Ending::Made => {}
             Ending::Astray => return Ending::Astray,
             Ending::Memory => return Ending::Memory,
         }
+        course.pass(rt);
         gone |= is_exit(op);
     }
     Ending::Made
@@ -155,15 +161,19 @@ fn run_racer<L: Ledger, R: Wait>(
     let Racer {
         seat,
         calls,
+        needs,
         ending,
     } = racer;
+    let task = seat.task();
+    let turns = starting_line.line_up(task, needs.as_slice(), call_range.from);
     let course = Course {
-        draws: Draws::new(chances, stream(call_range, seat.task())),
+        draws: Draws::new(chances, stream(call_range, task)),
         config: script.config,
+        turns,
     };
-    starting_line.line_up();
     let (before, calls) = call_range.split(calls.as_slice());
     *ending = make_calls(rt, hold, &course, seat, has_exit(before), calls);
+    course.leave(rt);
 }
 
 // A racer for each seat whose task has calls in the range, and the other seats.
@@ -178,6 +188,7 @@ fn set_racers<L: Ledger>(
     ensures idle { IfOk result (λ set. (mortal : Bool) → All (HasMadeIn mortal script.now call_range) set.1.items) }
     ensures count { IfOk result (λ set. length set.0.items + length set.1.items ≡ length seats.items) }
 {
+    let needs = needs_of(alloc, script)?;
     let mut racers = Vec::new(alloc);
     let mut idle = Vec::new(alloc);
     for seat in seats {
@@ -185,10 +196,12 @@ fn set_racers<L: Ledger>(
         if calls.len() <= call_range.from {
             idle.push(seat)?;
         } else {
+            let needs = own_needs(alloc, needs.as_slice(), seat.task())?;
             let ending = Ending::Memory;
             racers.push(Racer {
                 seat,
                 calls,
+                needs,
                 ending,
             })?;
         }
@@ -201,6 +214,7 @@ fn set_racers<L: Ledger>(
 fn run_racers<L: Ledger + Send + Sync, R: Threads + Wait + Sync>(
     rt: &R,
     track: &Track<'_, L>,
+    board: Option<Board>,
     script: &Script,
     call_range: CallRange,
     racers: &mut [Racer<L>],
@@ -213,7 +227,7 @@ fn run_racers<L: Ledger + Send + Sync, R: Threads + Wait + Sync>(
     if count == 0 {
         return;
     }
-    let (hold, starting_line) = (Halting::new(track.shared), StartingLine::new(count));
+    let (hold, starting_line) = (Halting::new(track.shared), StartingLine::new(count, board));
     let chances = track.chances;
     thread::for_each_mut(
         rt,
@@ -260,6 +274,7 @@ fn gather_seats<L: Ledger>(
         let Racer {
             seat,
             calls: _,
+            needs: _,
             ending,
         } = racer;
         match ending {
@@ -270,6 +285,19 @@ fn gather_seats<L: Ledger>(
         seats.push(seat)?;
     }
     Ok((made, seats))
+}
+
+// On which the ends of calls are noted, where calls of the script wait.
+fn board_of(
+    alloc: Global,
+    script: &Script,
+    call_range: CallRange,
+) -> Result<Option<Board>, AllocError> {
+    if script.waits.is_empty() {
+        return Ok(None);
+    }
+    let board = Board::new(alloc, script.config.tasks, call_range.from)?;
+    Ok(Some(board))
 }
 
 /// Makes the calls of a range, each task's in a thread of its own. Whether all were made, and the seats.
@@ -288,6 +316,7 @@ pub(crate) fn make_range<L: Ledger + Send + Sync, R: Threads + Wait + Sync>(
         (SomeStrayedIn (is_mortal track.now.chances) script.now call_range ran.1.items)) }
 {
     let (mut racers, idle) = set_racers(alloc, script, call_range, seats)?;
-    run_racers(rt, track, script, call_range, &mut racers);
+    let board = board_of(alloc, script, call_range)?;
+    run_racers(rt, track, board, script, call_range, &mut racers);
     gather_seats(track.chances, script, call_range, racers, idle)
 }

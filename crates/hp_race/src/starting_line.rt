@@ -2,53 +2,104 @@
 ghost use Rattle.std.specs.Prelude.{◌||◌, nat_lt};
 
 use crate::chances::Draws;
+use crate::waiting::{Board, Need, Turns};
 use hp_base::{Config, Task};
 use hp_machine::Phase;
 use hp_shared::Gate;
+use std::sync::Wait;
 use std::sync::atomic::{AtomicUsize, Ordering};
 use std::thread;
 
-/// How often a thread looks whether all others have come.
-const TURNS: u32 = 10_000;
+/// How often a thread looks whether all others have come, before it begins without them.
+const LOOKS: u32 = 10_000;
 
-/// How many threads race, and how many of them have come to the start.
+/// The same where calls wait for those of other threads, so that it can't begin without them.
+const LOOKS_AWAITED: u32 = 1_000_000;
+
+/// How many threads race, how many of them have come to the start, and on what they note the ends of calls that are waited for.
 #[derive(Drop)]
 pub(crate) struct StartingLine {
     racers: usize,
     came: AtomicUsize,
+    board: Option<Board>,
 }
 
 impl StartingLine {
-    pub(crate) fn new(racers: usize) -> StartingLine {
+    pub(crate) fn new(racers: usize, board: Option<Board>) -> StartingLine {
         StartingLine {
             racers,
             came: AtomicUsize::new(0),
+            board,
         }
     }
 
     /// Waits until all racers have come, so that they begin together; but not for good, since where no thread can be made
-    /// they come one after the other.
-    pub(crate) fn line_up(&self) {
+    /// they come one after the other. Whether all have come.
+    fn gather(&self) -> bool {
         self.came.fetch_add(1, Ordering::SeqCst);
-        for _ in 0..TURNS {
+        let looks = if self.board.is_some() {
+            LOOKS_AWAITED
+        } else {
+            LOOKS
+        };
+        for _ in 0..looks {
             if self.came.load(Ordering::SeqCst) >= self.racers {
-                return;
+                return true;
             }
             thread::yield_now();
         }
+        false
+    }
+
+    /// Waits for the others. When the calls of the task from that number on may begin, where calls wait.
+    pub(crate) fn line_up<'a>(
+        &'a self,
+        task: Task,
+        needs: &'a [Need],
+        from: usize,
+    ) -> Option<Turns<'a>> {
+        let all_run = self.gather();
+        let board = self.board.as_ref()?;
+        Some(Turns::new(board, task, needs, from, all_run))
     }
 }
 
 /// What one thread goes by behind the start.
 #[derive(Drop)]
-pub(crate) struct Course {
+pub(crate) struct Course<'a> {
     pub(crate) draws: Draws,
     /// The pool's sizes.
     pub(crate) config: Config,
+    /// When its calls may begin, where calls of the script wait.
+    pub(crate) turns: Option<Turns<'a>>,
+}
+
+impl Course<'_> {
+    /// Waits until the next call may begin. Whether it may.
+    pub(crate) fn come<R: Wait>(&self, rt: &R) -> bool {
+        match &self.turns {
+            Some(turns) => turns.come(rt),
+            None => true,
+        }
+    }
+
+    /// One more call has ended.
+    pub(crate) fn pass<R: Wait>(&self, rt: &R) {
+        if let Some(turns) = &self.turns {
+            turns.pass(rt);
+        }
+    }
+
+    /// No call is made any more.
+    pub(crate) fn leave<R: Wait>(&self, rt: &R) {
+        if let Some(turns) = &self.turns {
+            turns.leave(rt);
+        }
+    }
 }
 
 /// Between two holds others go first, where they can. A step is denied only where some may be.
-impl Gate for Course {
+impl Gate for Course<'_> {
     ghost use Rattle.std.specs.Prelude.{◌||◌, nat_lt};
 
     ghost may_answer = { λ course phase answer. answer || nat_lt 0 course.draws.deny };

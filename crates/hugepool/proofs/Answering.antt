@@ -1,18 +1,16 @@
 -- What is answered of a script whose runs or races are told, in lines to an output without a buffer.
 use Rattle.std.proofs.Common.{◌≡◌, ℕ, List, Option, Some, None, Bool, true, false, refl, sym, subst, inl, inr, arith}
-use Rattle.std.specs.Prelude.{◌==◌, OnOk, OnErr, IfErr, IfOk, IfSome, Result, Ok, Err, map}
+use Rattle.std.specs.Prelude.{◌==◌, OnOk, OnErr, IfErr, IfOk, IfSome, Result, Ok, Err}
 use Rattle.std.specs.Io.KnownBytes.{Appends, Keeps}
 use Rattle.std.proofs.KnownBytes.{Appends-kept, Keeps-trans}
 use Rattle.hp_base.specs.Text.{sizes}
 use Rattle.hp_text.specs.declared.script.Script.{Script}
 use Rattle.hp_race.specs.Text.{lines_text as race_lines}
-use Rattle.hp_text.specs.Collecting.{ReadsTrace}
 use Rattle.hp_explore.specs.declared.exploration.Exploration.{Exploration}
 use Rattle.hp_text.specs.declared.fault.ReplayFault.{ReplayFault}
 use Rattle.hp_text.specs.declared.fault.ReplayFault.TheVariants.{BadLine, BadHeader, Read, Write, Memory}
 use Rattle.hp_explore.specs.RunLines.{lines_text, WroteRuns, WroteSomeRuns}
 use Rattle.hp_text.specs.ScriptLines.{HasLinesFault, ReadsScript}
-use Rattle.hp_text.specs.Scripts.{begin_of, HasScriptFault}
 use Rattle.hp_text.specs.Streams.{sink_at, source_at, TellsReads, TellsWrites}
 use Rattle.hp_text.specs.Traces.{HasFault, trace_text}
 use Rattle.hp_text.specs.Writing.{IsWriteFault, Wrote}
@@ -21,7 +19,7 @@ use Rattle.hp_hunt.specs.SummaryText.{summary_text}
 use Rattle.hp_hunt.specs.declared.gathering.Survey.{Survey}
 use Rattle.hp_hunt.specs.declared.summary.Summary.{Summary}
 use Rattle.hp_program.specs.Endings.{ReaderAt}
-use Rattle.hugepool.specs.Racing.{Races, RacesPartly, WroteRacing, WroteSomeRacing}
+use Rattle.hugepool.specs.Racing.{HasRacedFault, Races, RacesPartly, ReadsRaced, WroteRacing, WroteSomeRacing}
 use Rattle.hugepool.specs.Requests.{Explores, ExploresPartly, NotDone, PartAt, AnsweredExplore, AnsweredRace, AnsweredRuns, AnsweredSummary}
 use Rattle.hugepool.specs.Summing.{SumsUp, SumsUpPartly}
 use Rattle.hugepool.specs.declared.racing.Racing.{Racing}
@@ -31,14 +29,27 @@ use Rattle.hugepool.specs.declared.program.Stop.TheVariants as stop
 use Rattle.hp_program.proofs.Buffered.{all_of}
 
 -- a fault of writing tells nothing of the bytes that were read
-pub no_script_fault : (from : Option (List ℕ)) (fault : ReplayFault) → IsWriteFault fault
-    → IfSome from (λ bytes. HasScriptFault bytes fault)
-no_script_fault None fault is = tt
-no_script_fault (Some bytes) BadHeader is = absurd is
-no_script_fault (Some bytes) (BadLine n) is = absurd is
-no_script_fault (Some bytes) Read is = absurd is
-no_script_fault (Some bytes) Write is = tt
-no_script_fault (Some bytes) Memory is = tt
+raced_fault : (r : Racing) (bytes : List ℕ) (fault : ReplayFault) → IsWriteFault fault → HasRacedFault r bytes fault
+raced_fault (Times times (Some cut) chances) bytes BadHeader is = absurd is
+raced_fault (Times times (Some cut) chances) bytes (BadLine n) is = absurd is
+raced_fault (Times times (Some cut) chances) bytes Read is = absurd is
+raced_fault (Times times (Some cut) chances) bytes Write is = tt
+raced_fault (Times times (Some cut) chances) bytes Memory is = tt
+raced_fault (Times times None chances) bytes BadHeader is = absurd is
+raced_fault (Times times None chances) bytes (BadLine n) is = absurd is
+raced_fault (Times times None chances) bytes Read is = absurd is
+raced_fault (Times times None chances) bytes Write is = tt
+raced_fault (Times times None chances) bytes Memory is = tt
+raced_fault (Trace chances) bytes BadHeader is = absurd is
+raced_fault (Trace chances) bytes (BadLine n) is = absurd is
+raced_fault (Trace chances) bytes Read is = absurd is
+raced_fault (Trace chances) bytes Write is = tt
+raced_fault (Trace chances) bytes Memory is = tt
+
+no_raced_fault : (r : Racing) (from : Option (List ℕ)) (fault : ReplayFault) → IsWriteFault fault
+    → IfSome from (λ bytes. HasRacedFault r bytes fault)
+no_raced_fault r None fault is = tt
+no_raced_fault r (Some bytes) fault is = raced_fault r bytes fault is
 
 pub no_lines_fault : (from : Option (List ℕ)) (fault : ReplayFault) → IsWriteFault fault
     → IfSome from (λ bytes. HasLinesFault bytes fault)
@@ -310,14 +321,14 @@ pub answered_race : {E : Type 0} (r : Racing) (from to : Option (List ℕ)) (old
     (raced : Result Bool ReplayFault) (flushed : Result (Unit {0}) E) (told : Result (Unit {0}) Stop) → start ≡ before
     → IfOk raced (λ closed. Races r closed from to start mid)
     → IfErr raced (λ fault. NotDone (RacesPartly r from to start mid) fault unfailed failures start mid)
-    → IfErr raced (λ fault. IfSome from (λ bytes. HasScriptFault bytes fault))
+    → IfErr raced (λ fault. IfSome from (λ bytes. HasRacedFault r bytes fault))
     → TellsReads raced old new → Keeps mid after → OnErr flushed (told ≡ Err (stop.Replay Write))
     → OnOk flushed (IfErr raced (λ fault. told ≡ Err (stop.Replay fault))) → OnOk flushed (raced ≡ Ok true → told ≡ Ok tt)
     → OnOk flushed (raced ≡ Ok false → told ≡ Err stop.Unfinished) → AnsweredRace r told from to old new before (Some after)
 answered_race r from to old new unfailed failures start before mid after raced flushed told same done short bad reads kept wrong
     fault all some =
     answered_runs (λ ended out. Races r ended from to before out) (RacesPartly r from to before)
-    (λ f. IfSome from (λ bytes. HasScriptFault bytes f)) old new unfailed failures before after raced flushed told
+    (λ f. IfSome from (λ bytes. HasRacedFault r bytes f)) old new unfailed failures before after raced flushed told
     (reached (λ ended. Races r ended from to start mid) (λ ended. Races r ended from to before after) raced
     (λ ended h. races_kept r ended from to start before mid after same kept h) done)
     (λ ended h. record { script = h.script; reads = h.reads; wrote = wrote_some r h.script ended before after h.wrote })
@@ -327,7 +338,7 @@ answered_race r from to old new unfailed failures start before mid after raced f
       reads = h.reads;
       wrote = some_kept r h.script start before mid after same kept h.wrote;
     }) short)
-    bad (no_script_fault from Write tt) reads wrong fault all some
+    bad (no_raced_fault r from Write tt) reads wrong fault all some
 
 -- a script was read, and its lines written
 module _ (e : Exploration) (from to before after : Option (List ℕ)) (script : Script)
@@ -358,7 +369,7 @@ module _ (v : Survey) (from to before after : Option (List ℕ)) (script : Scrip
 
 -- and what its races write
 module _ (r : Racing) (from to before after : Option (List ℕ)) (script : Script)
-    (reads : ReadsTrace from to (sizes script.config) (map begin_of script.calls.items)) where
+    (reads : ReadsRaced r from to script) where
   pub races : (raced : Result Bool ReplayFault) → IfOk raced (λ closed. WroteRacing r script closed before after)
       → IfOk raced (λ closed. Races r closed from to before after)
   races (Ok closed) wrote = record { script = script; reads = reads; wrote = wrote }

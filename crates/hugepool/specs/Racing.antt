@@ -1,5 +1,5 @@
 -- What comes of `hugepool race`.
-use Rattle.std.specs.Prelude.{ℕ, List, Option, Bool, map}
+use Rattle.std.specs.Prelude.{ℕ, List, Option, Some, None, Bool, map}
 use Rattle.std.specs.Int.NonZero.{non_zero_u32_get}
 use Rattle.std.specs.Option.{option_map}
 use Rattle.hp_base.specs.Text.{sizes}
@@ -7,9 +7,24 @@ use Rattle.hp_text.specs.declared.script.Script.{Script}
 use Rattle.hp_race.specs.Calls.{is_mortal}
 use Rattle.hp_race.specs.Writing.{WroteRaces, WroteSomeRaces, WroteSomeTrace, WroteTrace}
 use Rattle.hp_text.specs.Collecting.{ReadsTrace}
-use Rattle.hp_text.specs.Scripts.{begin_of}
+use Rattle.hp_text.specs.ScriptLines.{HasLinesFault, ReadsScript}
+use Rattle.hp_text.specs.Scripts.{begin_of, HasScriptFault}
+use Rattle.hp_text.specs.declared.fault.ReplayFault.{ReplayFault}
 use Rattle.hugepool.specs.declared.racing.Racing.{Racing}
 use Rattle.hugepool.specs.declared.racing.Racing.TheVariants.{Times, Trace}
+
+-- how the script of these races is read: its calls may wait where no journal is cut
+abbrev pub ReadsRaced : Racing → (from to : Option (List ℕ)) → Script → Type 0
+ReadsRaced (Times times (Some cut) chances) from to script = ReadsTrace from to (sizes script.config) (map begin_of script.calls.items)
+ReadsRaced (Times times None chances) from to script =
+    ReadsScript from to (sizes script.config) script.calls.items script.waits.items
+ReadsRaced (Trace chances) from to script = ReadsScript from to (sizes script.config) script.calls.items script.waits.items
+
+-- and which faults its bytes have
+abbrev pub HasRacedFault : Racing → (bytes : List ℕ) → ReplayFault → Type 0
+HasRacedFault (Times times (Some cut) chances) bytes fault = HasScriptFault bytes fault
+HasRacedFault (Times times None chances) bytes fault = HasLinesFault bytes fault
+HasRacedFault (Trace chances) bytes fault = HasLinesFault bytes fault
 
 -- what a script's races have written; all were closed, or some weren't
 abbrev pub WroteRacing : Racing → Script → (closed : Bool) → (before after : Option (List ℕ)) → Type 0
@@ -27,11 +42,11 @@ WroteSomeRacing (Trace chances) script before after = WroteSomeTrace (is_mortal 
 -- has `to`; an output held `before`, and now holds `after`
 pub record Races (r : Racing) (closed : Bool) (from to before after : Option (List ℕ)) : Type 0 where
   pub script : Script
-  pub reads : ReadsTrace from to (sizes script.config) (map begin_of script.calls.items)
+  pub reads : ReadsRaced r from to script
   pub wrote : WroteRacing r script closed before after
 
 -- a script was read, and a front of that written
 pub record RacesPartly (r : Racing) (from to before after : Option (List ℕ)) : Type 0 where
   pub script : Script
-  pub reads : ReadsTrace from to (sizes script.config) (map begin_of script.calls.items)
+  pub reads : ReadsRaced r from to script
   pub wrote : WroteSomeRacing r script before after

@@ -23,7 +23,6 @@ use Rattle.hp_text.specs.Checking.{ReadsEvents, count_line}
 use Rattle.hp_text.specs.Collecting.{ReadsTrace}
 use Rattle.hp_explore.specs.RunLines.{WroteRuns, WroteSomeRuns}
 use Rattle.hp_text.specs.ScriptLines.{HasLinesFault, ReadsScript}
-use Rattle.hp_text.specs.Scripts.{HasScriptFault}
 use Rattle.hp_text.specs.Streams.{sink_at}
 use Rattle.hp_text.specs.Traces.{HasFault, trace_text}
 use Rattle.hp_text.specs.Writing.{IsWriteFault, Wrote}
@@ -31,7 +30,7 @@ use Rattle.hp_explore.specs.declared.exploration.Exploration.{Exploration}
 use Rattle.hugepool.specs.Endings.{AnsweredNone, AnsweredReplay}
 use Rattle.hugepool.specs.Formatting.{AnsweredFormat}
 use Rattle.hugepool.specs.Hunting.{Finds, FindsNone, IsFinding, Minimizes, MinimizesNone, IsMinimized}
-use Rattle.hugepool.specs.Racing.{Races, RacesPartly}
+use Rattle.hugepool.specs.Racing.{HasRacedFault, Races, RacesPartly}
 use Rattle.hugepool.specs.Stepping.{AnsweredStep}
 use Rattle.hugepool.specs.Status.{status_at}
 use Rattle.hugepool.specs.Summing.{SumsUp, SumsUpPartly}
@@ -138,7 +137,7 @@ abbrev pub AnsweredRace : Racing → Result (Unit {0}) Stop → Option (List ℕ
     → Option (List ℕ) → Option (Option (List ℕ)) → Type 0
 AnsweredRace r answer from to old new before after =
     AnsweredRuns (λ closed after. Races r closed from to before after) (RacesPartly r from to before)
-    (λ fault. IfSome from (λ bytes. HasScriptFault bytes fault)) answer old new before after
+    (λ fault. IfSome from (λ bytes. HasRacedFault r bytes fault)) answer old new before after
 
 -- A text about the trace or the script that was read, which is read whole before anything is written: `Done` says of the streams that
 -- it was written, `IsFront` of a text that such a one begins with it, `Bad` of the bytes that this is their fault.

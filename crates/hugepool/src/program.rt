@@ -217,7 +217,7 @@ fn answer<H: Clock + Files + Threads + Wait + Sync, R: Source, W: Write + Drop>(
         ),
         Ok(Request::Format) => run_format(alloc, reader, out),
         Ok(Request::Step) => run_step(rt, alloc, reader, out),
-        Ok(Request::Race(racing)) => run_race(rt, alloc, racing, reader, out),
+        Ok(Request::Race(racing)) => run_race(rt, alloc, racing, reader, out, faults),
         Ok(Request::Work(words)) => run_work(rt, alloc, words, out),
         Ok(Request::TraceWork(words)) => run_trace_work(alloc, words, out),
         Err(error) => match error.kind() {

@@ -1,18 +1,18 @@
 //! `hugepool race`: a line for each race of a script.
 ghost use Rattle.std.specs.Prelude.{◌≡◌, IfOk, IfErr, Some, IfSome};
 ghost use Rattle.std.specs.Option.{option_map};
-ghost use Rattle.hp_text.specs.Scripts.{HasScriptFault};
 ghost use Rattle.hp_text.specs.Streams.{TellsReads, TellsWrites};
 ghost use Rattle.hp_text.specs.Writing.{IsWriteFault};
-ghost use Rattle.hugepool.specs.Racing.{Races, RacesPartly, WroteRacing, WroteSomeRacing};
+ghost use Rattle.hugepool.specs.Racing.{HasRacedFault, Races, RacesPartly, ReadsRaced, WroteRacing, WroteSomeRacing};
 ghost use Rattle.hugepool.specs.Requests.{AnsweredRace, NotDone};
 
 use crate::command::{deny_option, file_argument, seed, seed_option};
 use crate::exploring::explored_answer;
 use crate::program::{Stop, flush_out};
+use crate::scheduling::tell_ignored;
 use clap::{Arg, ArgAction, ArgMatches, Command};
 use hp_race::{Chances, write_race_trace, write_races};
-use hp_text::{ReplayFault, Script, Sink, Source, Watched, read_script};
+use hp_text::{ReplayFault, Script, Sink, Source, Watched, read_any_script, read_script};
 use std::alloc::{AllocError, Global};
 use std::io::Write;
 use std::num::NonZeroU32;
@@ -50,7 +50,8 @@ With --deny N each task draws before each of its steps whether an allocation of 
 before each of its calls whether a task is killed, and which: any task of the pool, itself included. A kill strikes the
 call that its victim has in flight; after it all calls of the victim but exit are refused. The draws depend on the seed,
 the race's number and the task alone; their timing depends on the scheduler.
-A script whose header begins with script, so that its calls may wait, is rejected.
+A script whose header begins with script, so that its calls may wait, is accepted without --cut: a thread waits before a
+call until the calls that it waits for have ended.
 docs/TRACES.md and hugepool replay --help describe traces. Examples:
   hugepool race --times 3 examples/truncate-against-store.script
   hugepool race --cut 2 examples/truncate-against-store.script
@@ -150,6 +151,22 @@ fn write_racing<W: Sink>(
     }
 }
 
+/// Reads the script of these races. A part of a journal that is cut may end before a call for which another waits, so then none may.
+fn read_raced<R: Source>(
+    alloc: Global,
+    racing: Racing,
+    reader: &mut R,
+) -> Result<Script, ReplayFault>
+    ensures ok { IfOk result (λ script. ReadsRaced racing (R.remaining reader.old) (R.remaining reader.new) script) }
+    ensures bad { IfErr result (λ fault. IfSome (R.remaining reader.old) (λ bytes. HasRacedFault racing bytes fault)) }
+    ensures reads { TellsReads result (R.failures reader.old) (R.failures reader.new) }
+{
+    match racing {
+        Racing::Times { cut: Some(_), .. } => read_script(alloc, reader),
+        Racing::Times { cut: None, .. } | Racing::Trace { .. } => read_any_script(alloc, reader),
+    }
+}
+
 /// Reads a script, and writes a line for each race, or the trace of one.
 fn race_script<R: Source, W: Sink>(
     rt: &(impl Threads + Wait + Sync),
@@ -157,16 +174,18 @@ fn race_script<R: Source, W: Sink>(
     racing: Racing,
     reader: &mut R,
     writer: &mut W,
+    faults: &mut impl Write,
 ) -> Result<bool, ReplayFault>
     ensures ok { IfOk result (λ closed. Races racing closed (R.remaining reader.old) (R.remaining reader.new)
         (W.contents writer.old) (W.contents writer.new)) }
     ensures err { IfErr result (λ fault. NotDone (RacesPartly racing (R.remaining reader.old) (R.remaining reader.new)
         (W.contents writer.old) (W.contents writer.new)) fault
         (W.failures writer.old) (W.failures writer.new) (W.contents writer.old) (W.contents writer.new)) }
-    ensures bad { IfErr result (λ fault. IfSome (R.remaining reader.old) (λ bytes. HasScriptFault bytes fault)) }
+    ensures bad { IfErr result (λ fault. IfSome (R.remaining reader.old) (λ bytes. HasRacedFault racing bytes fault)) }
     ensures reads { TellsReads result (R.failures reader.old) (R.failures reader.new) }
 {
-    let script = read_script(alloc, reader)?;
+    let script = read_raced(alloc, racing, reader)?;
+    tell_ignored(&script, faults);
     write_racing(rt, alloc, &script, racing, writer)
 }
 
@@ -177,12 +196,13 @@ pub(crate) fn run_race<R: Source, W: Write + Drop>(
     racing: Racing,
     reader: &mut R,
     out: W,
+    faults: &mut impl Write,
 ) -> (Result<(), Stop>, Option<W>)
     ensures { AnsweredRace racing result.0 (R.remaining reader.old) (R.remaining reader.new) (R.failures reader.old)
         (R.failures reader.new) (W.contents out) (option_map W.contents result.1) }
 {
     let mut sink = Watched::new(out);
-    let raced = race_script(rt, alloc, racing, reader, &mut sink);
+    let raced = race_script(rt, alloc, racing, reader, &mut sink, faults);
     let has_failed = sink.has_failed();
     let mut out = sink.into_inner();
     let flushed = flush_out(has_failed, &mut out);
