@@ -1,10 +1,11 @@
 -- What is noted of a run stays right, moment by moment.
 use Rattle.std.proofs.Common.{◌≡◌, ◌≢◌, ℕ, zero, suc, ◌+◌, ◌-◌, ◌<◌, ◌≤◌, List, [], ◌∷◌, length, refl, sym, ap, subst, ◌∙◌, arith, inl, inr}
-use Rattle.std.specs.Prelude.{◌↔◌, ◌⊎◌, Bool, true, false, Option, None, Some, replicate, slice_index_or, slice_set}
+use Rattle.std.specs.Prelude.{◌↔◌, ◌⊎◌, Bool, true, false, Option, None, Some, IfSome, replicate, slice_index_or, slice_set}
 use Rattle.std.specs.Option.{option_map}
 use Rattle.std.proofs.lemmas.Bool.Decides.{nat_tests}
 use Rattle.std.proofs.lemmas.List.{get_or-set_same, get_or-set_other, get_or_past, length-set}
 use Rattle.hp_base.proofs.Puts.{same_or_other}
+use Rattle.hp_base.specs.Text.{sizes}
 use Rattle.hp_base.specs.declared.config.Config.{Config}
 use Rattle.hp_base.specs.declared.event.Event.{Event}
 use Rattle.hp_machine.specs.State.{State}
@@ -17,16 +18,20 @@ use Rattle.hp_machine.specs.declared.phase.Phase.TheVariants as phase
 use Rattle.hp_laws.specs.Laws.{IsOf}
 use Rattle.hp_laws.proofs.Nearing.{others_stay}
 use Rattle.hp_laws.proofs.Reading.{step_cases}
-use Rattle.hp_core.specs.Passing.{may_wait}
+use Rattle.hp_core.specs.Holding.{held_by, holding_of}
+use Rattle.hp_core.specs.Passing.{may_wait, task_may_pass}
 use Rattle.hp_core.specs.Readers.{config_of, phase_of}
-use Rattle.hp_core.specs.Runs.{IsOfConfig, IsOpening, Row}
+use Rattle.hp_core.specs.Runs.{IsOfConfig, IsOpening, Row, geometry}
+use Rattle.hp_core.proofs.Growing.{HeldOn, held_same}
+use Rattle.hp_core.proofs.Holds.{HoldOn, holding_stays, holds_on_all, keeps_waiting}
 use Rattle.hp_core.specs.State.{CoreState, as_state}
 use Rattle.hp_core.specs.Waiting.{WaitsFor}
 use Rattle.hp_explore.specs.Phases.{ArePhases}
 use Rattle.hp_explore.proofs.Phases.{waits_not}
+use Rattle.hp_explore.proofs.Twins.{opening_reached}
 use Rattle.hp_hunt.specs.Facts.{IsHeldUp, StandTogether}
 use Rattle.hp_hunt.specs.Moments.{Moment, Once}
-use Rattle.hp_hunt.specs.Noting.{AreHeldUp, AreMet}
+use Rattle.hp_hunt.specs.Noting.{AreHeldUp, AreMet, IsLookedAt, IsQuiet}
 use Rattle.hp_hunt.specs.Phases.{ArePair, IsMarked, MeetsBelow, all_phases, beside, pair_place, place_of}
 use Rattle.hp_hunt.proofs.Watches.{stands_there}
 
@@ -411,27 +416,88 @@ same_waiting core was marks tasks n why had =
       λ h. elim h [ inl w ↦ had.rest n (omega arith) ∙ w | inr held ↦ absurd (free held) ],
     )
 
-pub held_more : (core : CoreState) (e : Event) (o : Outcome) (was marks : List Bool) (before : List Moment) (tasks : ℕ)
+-- behind an event whose task's call takes and leaves nothing by it, each other task that is held up was held up before
+held_before : (s v : CoreState) (event : Event) (o : Outcome) (t u : ℕ) → IsReached (as_state s) → Row s event o v
+    → ((x : ℕ) → IsOf x event → x ≡ t) → task_may_pass (phase_of s t) ≡ false → u ≢ t → IsHeldUp v u → IsHeldUp s u
+unfolding Row IsHeldUp holding_of
+held_before s v event o t u reached row of quiet other (h, waits) = (h, keeps_waiting v s u h back (sym stay.0) (sym stay.1) waits)
+  where
+    held : holding_of v t ≡ holding_of s t
+    held = holding_stays s v event o t row of quiet
+
+    on : HoldOn (as_state s) (as_state v)
+    on = holds_on_all s v event o t reached row of (held_same _ _ held)
+
+    stay : ((as_state v).calls u ≡ (as_state s).calls u) × ((as_state v).life u ≡ (as_state s).life u)
+    stay = others_stay (as_state s) (as_state v) event o u row.0 (λ is. other (of u is))
+
+    back : HoldOn (as_state v) (as_state s)
+    back = record {
+      reached = on.other;
+      other = on.reached;
+      geometry = sym on.geometry;
+      held = λ x. elim (same_or_other x t) [
+        | inl e ↦ subst (λ (k : ℕ). HeldOn (held_by ((as_state v).calls k)) (held_by ((as_state s).calls k))) (sym e)
+            (held_same _ _ (sym held))
+        | inr apart ↦ held_same _ _ (sym (ap held_by (others_stay (as_state s) (as_state v) event o x row.0 (λ is. apart (of x is))).0))
+      ];
+    }
+
+-- so a task that is held up was marked before, or is looked at
+newly_held : (s v : CoreState) (event : Event) (o : Outcome) (phases : List (Option Phase)) (was : List Bool) (t : ℕ) (quiet : Option ℕ)
+    → IsReached (as_state s) → Row s event o v → ArePhases s phases → IfSome quiet (λ place. place < length phases)
+    → IfSome quiet (λ place. IsQuiet event phases place) → 1 ≤ t → (IsHeldUp s t → slice_index_or was (t - 1) false ≡ true)
+    → IsHeldUp v t → (slice_index_or was (t - 1) false ≡ true) ⊎ (IsLookedAt quiet (t - 1) × IsHeldUp v (t - 1 + 1))
+unfolding ArePhases
+newly_held s v event o phases was t None reached row are there is one marked held =
+    let back : t ≡ t - 1 + 1 = omega (arith, one) in inr (tt, subst (λ (u : ℕ). IsHeldUp v u) back held)
+newly_held s v event o phases was t (Some place) reached row are there is one marked held = elim (same_or_other (t - 1) place) [
+  | inl e ↦ (let back : t ≡ t - 1 + 1 = omega (arith, one) in inr (e, subst (λ (u : ℕ). IsHeldUp v u) back held))
+  | inr apart ↦ inl (marked (held_before s v event o (place + 1) t reached row is.alone keeps (λ same. apart (omega (arith, same, one))) held))
+]
+  where
+    back : place ≡ place + 1 - 1
+    back = omega arith
+
+    stood_there : slice_index_or phases place None ≡ phase_of s (place + 1)
+    stood_there = ap (λ (n : ℕ). slice_index_or phases n None) back ∙ are (place + 1) None (omega arith) (omega (arith, there))
+
+    keeps : task_may_pass (phase_of s (place + 1)) ≡ false
+    keeps = ap task_may_pass (sym stood_there) ∙ is.keeps
+
+pub held_more : (s core : CoreState) (e : Event) (o : Outcome) (phases : List (Option Phase)) (was marks : List Bool)
+    (before : List Moment) (tasks : ℕ) (quiet : Option ℕ) → IsReached (as_state s) → Row s e o core → ArePhases s phases
+    → length phases ≡ tasks → IfSome quiet (λ place. place < tasks) → IfSome quiet (λ place. IsQuiet e phases place)
     → length was ≡ tasks → length marks ≡ tasks
-    → ((k : ℕ) → k < tasks → (slice_index_or marks k false ≡ true ↔ ((slice_index_or was k false ≡ true) ⊎ IsHeldUp core (k + 1))))
-    → AreHeldUp was before → AreHeldUp marks (record { event = e; outcome = o; core = core } ∷ before)
+    → ((k : ℕ) → k < tasks → (slice_index_or marks k false ≡ true
+    ↔ ((slice_index_or was k false ≡ true) ⊎ (IsLookedAt quiet k × IsHeldUp core (k + 1)))))
+    → AreHeldUp was s before → AreHeldUp marks core (record { event = e; outcome = o; core = core } ∷ before)
 unfolding Once
-held_more core e o was marks before tasks long same marked were =
+held_more s core e o phases was marks before tasks quiet reached row are wide there is long same marked were =
     record {
-      once = λ t one there.
-          let now = marked (t - 1) (omega (arith, one, there, same)) in
-          let had = were.once t one (omega (arith, there, same, long)) in
+      once = λ t one within.
+          let now = marked (t - 1) (omega (arith, one, within, same)) in
+          let had = were.once t one (omega (arith, within, same, long)) in
           let back : t - 1 + 1 ≡ t = omega (arith, one) in (
             λ h. elim (now.0 h) [
               | inl w ↦ inr (had.0 w)
-              | inr held ↦ inl (subst (λ (u : ℕ). IsHeldUp core u) back held)
+              | inr held ↦ inl (subst (λ (u : ℕ). IsHeldUp core u) back held.1)
             ],
             λ h. elim h [
-              | inl held ↦ now.1 (inr (subst (λ (u : ℕ). IsHeldUp core u) (sym back) held))
+              | inl held ↦ stands t one within held
               | inr w ↦ now.1 (inl (had.1 w))
             ],
           );
+      now = stands;
     }
+  where
+    within_all : IfSome quiet (λ place. place < length phases)
+    within_all = subst (λ (n : ℕ). IfSome quiet (λ place. place < n)) (sym wide) there
+
+    stands : (t : ℕ) → 1 ≤ t → t ≤ length marks → IsHeldUp core t → slice_index_or marks (t - 1) false ≡ true
+    stands t one within held = (marked (t - 1) (omega (arith, one, within, same))).1
+        (newly_held s core e o phases was t quiet reached row are within_all is one
+        (λ h. were.now t one (omega (arith, within, same, long)) h) held)
 
 -- ---- before any event
 
@@ -456,12 +522,22 @@ none_met config s n marks is opens =
       now = λ p q h. (let bad : None ≡ Some p = sym (no_call config s h.0 opens) ∙ h.3 in absurd (cc));
     }
 
-pub none_held : (n : ℕ) (marks : List Bool) → marks ≡ replicate n false → AreHeldUp marks []
+pub none_held : (config : Config) (s : CoreState) (n : ℕ) (marks : List Bool) → marks ≡ replicate n false → IsOpening config s
+    → AreHeldUp marks s []
 unfolding Once
-none_held n marks is =
+none_held config s n marks is opens =
     record {
       once = λ t one there. (
         λ h. unmarked n (t - 1) (subst (λ (m : List Bool). slice_index_or m (t - 1) false ≡ true) is h),
         λ h. absurd h,
       );
+      now = λ t one there held. (
+          let h = held_stands s t held in
+          let bad : None ≡ Some h.0 = sym (no_call config s t opens) ∙ h.1 in absurd (cc)
+          );
     }
+
+-- a pool that opens is reached
+pub opened_reached : (config : Config) (s : CoreState) → IsOpening config s → IsReached (as_state s)
+unfolding IsOpening
+opened_reached config s opens = subst IsReached (sym opens.1) (opening_reached (geometry (sizes config)) config.frames)

@@ -4,14 +4,14 @@ ghost use Rattle.std.specs.Prelude.{IfOk, IfSome, OnOk, length, replicate, slice
 ghost use Rattle.hp_base.specs.declared.config.Config.{Config};
 ghost use Rattle.hp_machine.specs.declared.outcome.Outcome.{Outcome};
 ghost use Rattle.hp_laws.specs.Laws.{IsOf};
-ghost use Rattle.hp_core.specs.Passing.{may_wait};
-ghost use Rattle.hp_core.specs.Readers.{config_of};
+ghost use Rattle.hp_core.specs.Passing.{may_wait, task_may_pass};
+ghost use Rattle.hp_core.specs.Readers.{config_of, phase_of};
 ghost use Rattle.hp_core.specs.Runs.{IsOpening, Row};
 ghost use Rattle.hp_core.specs.State.{CoreState};
-ghost use Rattle.hp_explore.specs.Phases.{ArePhases};
+ghost use Rattle.hp_explore.specs.Phases.{Agrees, ArePhases};
 ghost use Rattle.hp_hunt.specs.Facts.{IsHeldUp, ended_by};
 ghost use Rattle.hp_hunt.specs.Moments.{Moment};
-ghost use Rattle.hp_hunt.specs.Noting.{AreLong, AreMet, AreNotes, CameBy};
+ghost use Rattle.hp_hunt.specs.Noting.{AreLong, AreMet, AreNotes, CameBy, IsLookedAt, IsQuiet};
 
 use crate::facts::Ended;
 use crate::phases::{PAIRS, mark_meetings};
@@ -81,6 +81,45 @@ fn may_wait(at: Option<Phase>) -> bool
     matches!(at, Some(Phase::Start | Phase::Want))
 }
 
+/// Whether an event of a task whose call stood there may take or leave a slot or a lock. Any other leaves what the call holds.
+#[inline(always)]
+fn may_pass(at: Option<Phase>) -> bool
+    ensures { result ≡ task_may_pass at }
+{
+    matches!(
+        at,
+        Some(Phase::Start | Phase::Want | Phase::Unslot | Phase::Leave)
+    )
+}
+
+/// The place of the event's task, where its call, of those that stood so, takes and leaves nothing by it: then nobody else is held up
+/// who wasn't before.
+#[inline(always)]
+fn quiet_place(event: &Event, phases: &[Option<Phase>], tasks: u32) -> Option<u32>
+    requires { length phases.now ≡ tasks }
+    ensures there { IfSome result (λ place. place < tasks) }
+    ensures quiet { IfSome result (λ place. IsQuiet event.now phases.now place) }
+{
+    match task_among(event, tasks) {
+        Some(task) if !may_pass(phases[task.place()]) => Some(task.number() - 1),
+        _ => None,
+    }
+}
+
+/// Where the task's call stands after its event. Most outcomes tell it.
+#[inline(always)]
+fn phase_after(core: &Core, task: Task, outcome: &Outcome) -> Option<Phase>
+    requires there { (1 ≤ task) × (task ≤ (config_of core.now).tasks) }
+    requires agrees { Agrees outcome.now (phase_of core.now task) }
+    ensures { result ≡ phase_of core.now task }
+{
+    match outcome {
+        Outcome::Moved(at) => Some(*at),
+        Outcome::Ended(_) => None,
+        _ => core.phase(task),
+    }
+}
+
 /// Whether the next step of the call of the task at this place is blocked by somebody.
 #[inline(always)]
 fn is_waiting(core: &Core, phases: &[Option<Phase>], place: u32) -> bool
@@ -108,16 +147,41 @@ fn mark_held(held: &mut [bool], phases: &[Option<Phase>], core: &Core, tasks: u3
     }
 }
 
-/// Marks each task that is held up.
-fn mark_waiting(held: &mut Vec<bool>, phases: &[Option<Phase>], core: &Core, tasks: u32)
+/// Marks the task at this place, if it is held up.
+fn mark_own(held: &mut [bool], phases: &[Option<Phase>], core: &Core, place: u32)
+    requires phases { ArePhases core.now phases.now }
+    requires there { place < length phases.now }
+    requires fits { place + 1 < 2 ^ 32 }
+    requires long { length held.old ≡ length phases.now }
+    ensures long { length held.new ≡ length held.old }
+    ensures marked { (k : ℕ) → (slice_index_or held.new k false ≡ true
+        ↔ ((slice_index_or held.old k false ≡ true) ⊎ ((k ≡ place) × IsHeldUp core.now (k + 1)))) }
+{
+    if !held[place as usize] && is_waiting(core, phases, place) {
+        held[place as usize] = true;
+    }
+}
+
+/// Marks each task that is held up; or where a place is given, only the task there, if it is.
+fn mark_waiting(
+    held: &mut Vec<bool>,
+    phases: &[Option<Phase>],
+    core: &Core,
+    tasks: u32,
+    quiet: Option<u32>,
+)
     requires phases { ArePhases core.now phases.now }
     requires tasks { length phases.now ≡ tasks }
     requires long { length held.old.items ≡ tasks }
+    requires there { IfSome quiet (λ place. place < tasks) }
     ensures long { length held.new.items ≡ tasks }
     ensures marked { (k : ℕ) → k < tasks → (slice_index_or held.new.items k false ≡ true
-        ↔ ((slice_index_or held.old.items k false ≡ true) ⊎ IsHeldUp core.now (k + 1))) }
+        ↔ ((slice_index_or held.old.items k false ≡ true) ⊎ (IsLookedAt quiet k × IsHeldUp core.now (k + 1)))) }
 {
-    mark_held(held.as_mut_slice(), phases, core, tasks);
+    match quiet {
+        Some(place) => mark_own(held.as_mut_slice(), phases, core, place),
+        None => mark_held(held.as_mut_slice(), phases, core, tasks),
+    }
 }
 
 /// Notes where the event leaves its task's call, and which others it meets there.
@@ -125,24 +189,24 @@ fn note_phase(
     phases: &mut Vec<Option<Phase>>,
     met: &mut Vec<bool>,
     event: &Event,
+    outcome: &Outcome,
     core: &Core,
     tasks: u32,
 )
     requires sized { tasks ≡ (config_of core.now).tasks }
     requires tasks { length phases.old.items ≡ tasks }
     requires pairs { length met.old.items ≡ 729 }
-    requires came { CameBy phases.old.items event.now core.now }
+    requires came { CameBy phases.old.items event.now outcome.now core.now }
     ensures tasks { length phases.new.items ≡ tasks }
     ensures pairs { length met.new.items ≡ 729 }
     ensures phases { ArePhases core.now phases.new.items }
-    ensures met { (old : CoreState) (outcome : Outcome) (before : List Moment) → Row old event.now outcome core.now
-        → AreMet met.old.items old before
-        → AreMet met.new.items core.now (record { event = event.now; outcome = outcome; core = core.now } ∷ before) }
+    ensures met { (old : CoreState) (before : List Moment) → Row old event.now outcome.now core.now → AreMet met.old.items old before
+        → AreMet met.new.items core.now (record { event = event.now; outcome = outcome.now; core = core.now } ∷ before) }
 {
     core.is_reached();
     core.always();
     if let Some(task) = task_among(event, tasks) {
-        phases[task.place()] = core.phase(task);
+        phases[task.place()] = phase_after(core, task, outcome);
         mark_meetings(met, phases.as_slice(), task.place());
     }
 }
@@ -181,7 +245,7 @@ impl Notes {
         core: &Core,
     ) -> Result<(), AllocError>
         requires long { AreLong self.old (config_of core.now).tasks }
-        requires came { CameBy self.old.phases.items event.now core.now }
+        requires came { CameBy self.old.phases.items event.now outcome.now core.now }
         ensures long { OnOk result (AreLong self.new (config_of core.now).tasks) }
         ensures knows { OnOk result ((old : CoreState) (before : List Moment) → Row old event.now outcome.now core.now
             → AreNotes self.old old before
@@ -190,8 +254,10 @@ impl Notes {
         // The checker of borrows asks for a mention of the types that an event and an outcome may hold.
         let _none: (Option<Op>, Option<Answer>) = (None, None);
         let tasks = core.config().tasks;
-        note_phase(&mut self.phases, &mut self.met, event, core, tasks);
-        mark_waiting(&mut self.held, self.phases.as_slice(), core, tasks);
+        core.is_reached();
+        let quiet = quiet_place(event, self.phases.as_slice(), tasks);
+        note_phase(&mut self.phases, &mut self.met, event, outcome, core, tasks);
+        mark_waiting(&mut self.held, self.phases.as_slice(), core, tasks, quiet);
         if let Some(ended) = ended_by(event, outcome) {
             self.ended.push(ended)?;
         }

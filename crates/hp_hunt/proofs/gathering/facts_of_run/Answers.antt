@@ -48,7 +48,7 @@ see-requires-clause-came c =
     c.in_ok-turned.ensures.row in
     record {
       old = old.world.core;
-      outcome = t.outcome;
+      reached = c.loop-turns.invariant.noted.are.reached;
       row = subst (λ (s : CoreState). Row old.world.core t.event t.outcome s) (sym c.core.ensures) row;
       were = c.loop-turns.invariant.noted.are.phases;
     }
