@@ -253,7 +253,7 @@ def stream_cases() -> list[Case]:
     """What is run with one read or write that fails."""
     calls = "begin 1 map 0 0 1\nbegin 1 unmap 0\n"
     trace, script, short = "pool 4 1 4 2\n" + "step 1\n" * 2_000, "pool 4 1 4 2\n" + calls * 400, "pool 4 1 4 2\n" + calls * 10
-    found = [plain_words(words, trace) for words in ("replay", "explain", "draw", "check")]
+    found = [plain_words(words, trace) for words in ("replay", "replay --color always", "explain", "draw", "check")]
     found += [plain_words(words, trace) for words in ("explain --compact --linux --tasks 1 --lines 2..1500", "explain --json", "replay --json", "draw --html")]
     found += [plain_words(words, script) for words in ("schedule", "explore --runs 600", "explore --summary --runs 60")]
     found += [plain_words("format", trace)]

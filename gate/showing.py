@@ -3,7 +3,8 @@
 
 A socket that keeps messages apart stands for the output, so that each write of the program is seen by itself. A replay tells what came
 of the lines that it has, while more may come. The most runs and races that may be asked for are made, and runs in shards
-(bench/explore-many.sh, with a stand-in for GNU parallel) are those of one exploration. Each command's help is held to what is told of
+(bench/explore-many.sh, with a stand-in for GNU parallel) are those of one exploration. Outcomes are coloured at a terminal, and nowhere else
+unless that is asked for; and in replays and explanations of all examples no other word is. Each command's help is held to what is told of
 the command elsewhere, and what is said of each wrong field of a line to what is to be said (reasons.py).
 """
 from __future__ import annotations
@@ -29,6 +30,8 @@ STAY = re.compile(r"at \w+[^<]*</title><rect class='stay \w+' x='\d+' y='(\d+)' 
 TASK = re.compile(r"<title>line \d+: [^<]* of task (\d+) at ")
 NAME = re.compile(r"<text class='name' x='8' y='\d+'>(?:task (\d+)|pool)</text>")
 NUMBER = re.compile(r"<text class='at' x='(\d+)' y='\d+'>(\d+)</text>")
+# what begins and ends a colour
+COLOUR = re.compile(r"\x1b\[[0-9]*m")
 # how wide a letter is
 LETTER = 6
 # a picture of few events is no wider than this, and one of very many has two places for each
@@ -141,6 +144,56 @@ def at_terminal(words: str, read: str) -> tuple[str, str]:
         return out.read().decode(), shown.decode()
 
 
+def on_terminal(words: str, read: str, **variables: str) -> str:
+    """What a command writes where its output is a terminal and these variables are set, and NO_COLOR isn't otherwise."""
+    ours, theirs = pty.openpty()
+    kept = {name: value for name, value in os.environ.items() if name != "NO_COLOR"}
+    own = {"env": {**kept, "TERM": "xterm", **variables}, "stdin": subprocess.PIPE, "stdout": theirs, "stderr": subprocess.DEVNULL}
+    with subprocess.Popen([TOP / "hugepool", *words.split()], **own) as ran:
+        os.close(theirs)
+        ran.stdin.write(read.encode())
+        ran.stdin.close()
+        shown = b""
+        try:
+            while piece := os.read(ours, 65_536):
+                shown += piece
+        except OSError:  # the terminal's other end was closed
+            pass
+        os.close(ours)
+    return shown.decode().replace("\r\n", "\n")
+
+
+def painted(text: str) -> str:
+    """A replay or an explanation with colours where an outcome, a wait or a killed task is told: by what stands around the words."""
+    red, yellow = (lambda it: f"\x1b[31m{it[0]}\x1b[0m"), (lambda it: f"\x1b[33m{it[0]}\x1b[0m")
+    text = re.sub(rf"(?<=ended )(?!(?:{'|'.join(GOOD)})\b)\w+|(?<=refused )\w+|refused(?= \w)", red, text)
+    text = re.sub(r"(?<=^task \d )killed(?= mappings)|(?<=^task \d\d )killed(?= mappings)", red, text, flags=re.M)
+    return re.sub(r"\bblocked(?= (?:by )?\d)|(?<=\d )waits(?= (?:for|no more))", yellow, text)
+
+
+def colours() -> Iterator[tuple[str, bool]]:
+    """What is tried of colours."""
+    trace = example("calls-in-flight.trace")
+    for command in ("replay", "explain", "explain --compact"):
+        plain = output(command, trace)
+        yield f"{command} is coloured at a terminal", on_terminal(command, trace) == painted(plain) != plain
+        yield "with an empty NO_COLOR, too", on_terminal(command, trace, NO_COLOR="") == painted(plain)
+        for name, value in (("NO_COLOR", "1"), ("NO_COLOR", "0"), ("TERM", "dumb")):
+            yield f"but not with {name}={value}", on_terminal(command, trace, **{name: value}) == plain
+        yield "nor if that is asked for", on_terminal(f"{command} --color never", trace) == plain
+        asked = on_terminal(f"{command} --color always", trace, NO_COLOR="1", TERM="dumb")
+        yield "and everywhere if that is asked for", asked == output(f"{command} --color always", trace) == painted(plain)
+    yield "help isn't coloured", on_terminal("race --help", "") == output("race --help", "")
+    for command in ("replay --json", "explain --json", "draw", "check"):
+        yield f"{command} isn't coloured", on_terminal(command, trace) == output(command, trace)
+    for file in sorted((TOP / "examples").rglob("*.trace")):
+        trace = file.read_text(encoding="utf-8")
+        for command in ("replay", "explain"):
+            plain, coloured = run(TOP / "hugepool", command, trace), run(TOP / "hugepool", f"{command} --color always", trace)
+            same = (coloured.status, coloured.err) == (plain.status, plain.err) and COLOUR.sub("", coloured.out) == plain.out
+            yield f"{file.stem}: {command} in colours says the same, and has no other word coloured", same and coloured.out == painted(plain.out)
+
+
 def is_progress_shown(words: str, read: str, last: str) -> bool:
     """Whether a search that takes long says at a terminal how far it is, each time in place of the time before, and then erases that; and
     says nothing of it anywhere else."""
@@ -242,16 +295,18 @@ def helps() -> Iterator[tuple[str, bool]]:
         about, _, usage = text.split("\n")[:3]
         yield f"{command} --help begins with what --help tells of it", about == told[command]
         options = " CONDITION.." if command in ("find", "minimize") else ""
-        options += " [OPTIONS]" if command in ("replay", "explain", "draw", "explore", "schedule", "find", "race", "work") else ""
+        options += " [OPTIONS]" if command in ("replay", "explain", "draw", "explore", "schedule", "find", "step", "race", "work") else ""
         wanted = " <NAME>" if command == "work" else " [FILE]"
         yield f"{command} --help tells how it is called ({usage})", usage == f"Usage: hugepool {command}{options}{wanted}"
     for command in ("explain", "draw", "check"):
         yield f"{command} --help tells of traces as replay's does", len(below["replay"]) > 1000 and below[command] == below["replay"]
     yield "schedule --help tells of scripts as explore's does", len(below["explore"]) > 500 and below["schedule"] == below["explore"]
-    runs = {line for line in lines_of("explore") if re.match(r" +--(?:runs|audit|summary)", line)}
-    one = {line for line in lines_of("schedule") if re.match(r" +--run ", line)}
-    shared = lines_of("schedule") - one
-    yield "and of its options", len(runs) == 3 and len(one) == 1 and shared == lines_of("explore") - runs != set()
+    # (a longer option makes more room before what is told of each)
+    told_of = lambda command: {re.sub(r"  +", "  ", line) for line in lines_of(command)}
+    runs = {line for line in told_of("explore") if re.match(r" +--(?:runs|audit|summary|color)", line)}
+    one = {line for line in told_of("schedule") if re.match(r" +--run ", line)}
+    shared = told_of("schedule") - one
+    yield "and of its options", len(runs) == 4 and len(one) == 1 and shared == told_of("explore") - runs != set()
 
 
 def tries(program: Path) -> Iterator[tuple[str, bool]]:
@@ -275,6 +330,7 @@ def tries(program: Path) -> Iterator[tuple[str, bool]]:
     yield "a summary says at a terminal how far it is", is_progress_shown("explore --summary --runs 20000", crowd, "")
     yield "so does a search", is_progress_shown("find --answer 64:2=noframe --limit 20000", crowd, never)
     yield from helps()
+    yield from colours()
     yield from reasons.tries(program)
     yield "a race is written before the next begins", writes("race --times 3", EMPTY) == [1, 1, 1]
     yield "races of one script differ", do_races_differ(example("truncate-against-store.script"))

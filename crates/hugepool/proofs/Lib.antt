@@ -4,3 +4,5 @@ mod Hunted
 mod Reporting
 mod Scheduled
 mod Texts
+mod Colours
+mod Unpainted

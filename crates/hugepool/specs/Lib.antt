@@ -8,3 +8,6 @@ pub mod Summing
 pub mod Words
 pub mod Working
 pub mod Stepping
+pub mod Colouring
+pub mod Painting
+pub mod Palettes

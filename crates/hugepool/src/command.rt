@@ -1,4 +1,5 @@
 //! The words of the command line.
+use crate::colouring::{Colouring, When, color_option, palette_of, when_named};
 use crate::conditions::{Search, find_command, minimize_command, read_conditions, read_search};
 use crate::racing::{Racing, race_command, race_words};
 use crate::viewing::{explain_command, json_option, read_view};
@@ -86,6 +87,21 @@ pub(crate) fn named_file<S: AsStr>(alloc: Global, words: &[S]) -> Result<Named, 
             None => Ok(Named::Standard),
         },
     }
+}
+
+/// What the words say of colours. Words that clap refuses say nothing, and a command without the option has none.
+pub(crate) fn read_colouring<S: AsStr>(alloc: Global, words: &[S]) -> Option<Colouring> {
+    let matches = command(alloc).ok()?.try_get_matches_from(words).ok()?;
+    let request = read_request(alloc, &matches).ok()?;
+    let (_, given) = matches.subcommand()?;
+    let when = match given.get_str("color") {
+        Some(name) => when_named(name),
+        None => When::Never,
+    };
+    Some(Colouring {
+        when,
+        palette: palette_of(&request),
+    })
 }
 
 // Words that clap refuses name no file. If it had no memory to read them, that isn't known.
@@ -263,7 +279,8 @@ fn replay<'a>(alloc: Global) -> Result<Command<'a>, AllocError> {
         .arg(file_argument(alloc))?
         .arg(json_option(alloc).help(
             "Prints lines of JSON, as explain --json does; reads the whole trace first",
-        ))
+        ))?
+        .arg(color_option(alloc))
 }
 
 fn check<'a>(alloc: Global) -> Result<Command<'a>, AllocError> {
@@ -301,9 +318,10 @@ fn format<'a>(alloc: Global) -> Result<Command<'a>, AllocError> {
 fn step<'a>(alloc: Global) -> Result<Command<'a>, AllocError> {
     Command::new(alloc, "step")
         .about("Drives a pool line by line: each event is answered at once, and can be undone")
-        .override_usage("hugepool step [FILE]")
+        .override_usage("hugepool step [OPTIONS] [FILE]")
         .after_help(STEPS)
-        .arg(file_argument(alloc))
+        .arg(file_argument(alloc))?
+        .arg(color_option(alloc))
 }
 
 fn explore<'a>(alloc: Global) -> Result<Command<'a>, AllocError> {
@@ -315,7 +333,8 @@ fn explore<'a>(alloc: Global) -> Result<Command<'a>, AllocError> {
     let command = with_runs(alloc, command)?;
     with_chances(alloc, command)?
         .arg(audit_option(alloc))?
-        .arg(summary_option(alloc)?)
+        .arg(summary_option(alloc)?)?
+        .arg(color_option(alloc))
 }
 
 fn schedule<'a>(alloc: Global) -> Result<Command<'a>, AllocError> {

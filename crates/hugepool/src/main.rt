@@ -7,6 +7,7 @@
 
 mod carrying;
 mod checking;
+mod colouring;
 mod command;
 mod conditions;
 mod drawing;
@@ -16,9 +17,12 @@ mod finding;
 mod formatting;
 mod hinting;
 mod input;
+mod laws;
 mod minimizing;
 mod objects;
 mod paging;
+mod painting;
+mod palette;
 mod program;
 mod progress;
 mod racing;
@@ -31,10 +35,12 @@ mod viewing;
 mod words;
 mod working;
 
+use colouring::chosen_palette;
 use hp_diagnostics::Recalling;
 use hp_program::{Noted, write_error};
 use hp_text::Watched;
 use input::open_input;
+use painting::Painted;
 use program::program;
 use std::io;
 use std::process::ExitCode;
@@ -50,7 +56,8 @@ fn main(rt: HostRuntime) -> io::Result<ExitCode> {
         return Ok(ExitCode::from(1));
     };
     let mut reader = Recalling::new(Watched::new(Noted::new(input)));
-    let out = Noted::new(rt.stdout());
+    let palette = chosen_palette(&rt, words.as_slice());
+    let out = Painted::new(rt.alloc(), Noted::new(rt.stdout()), palette);
     let (status, out) = program(
         &rt,
         rt.alloc(),
@@ -61,7 +68,7 @@ fn main(rt: HostRuntime) -> io::Result<ExitCode> {
     );
     if status != 0 {
         let reading = reader.into_inner().into_inner().error();
-        let writing = out.and_then(|out| out.error());
+        let writing = out.and_then(|out| out.into_inner().error());
         let _ = write_error(reading, writing, &mut faults);
     }
     Ok(ExitCode::from(status))

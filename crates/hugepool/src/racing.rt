@@ -6,6 +6,7 @@ ghost use Rattle.hp_text.specs.Writing.{IsWriteFault};
 ghost use Rattle.hugepool.specs.Racing.{HasRacedFault, Races, RacesPartly, ReadsRaced, WroteRacing, WroteSomeRacing};
 ghost use Rattle.hugepool.specs.Requests.{AnsweredRace, NotDone};
 
+use crate::colouring::color_option;
 use crate::command::{deny_option, file_argument, seed, seed_option};
 use crate::exploring::explored_answer;
 use crate::program::{Stop, flush_out};
@@ -107,7 +108,7 @@ pub(crate) fn race_command<'a>(alloc: Global) -> Result<Command<'a>, AllocError>
         .arg(deny_option(alloc))?
         .arg(kill_option(alloc))?
         .arg(cut_option(alloc))?;
-    command.arg(trace_option(alloc)?)
+    command.arg(trace_option(alloc)?)?.arg(color_option(alloc))
 }
 
 /// What the words of the command ask for.

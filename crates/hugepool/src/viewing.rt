@@ -1,4 +1,5 @@
 //! The words of `explain`: which rows it writes, and how they are laid out.
+use crate::colouring::color_option;
 use crate::command::file_argument;
 use clap::error::ErrorKind;
 use clap::{Arg, ArgAction, ArgMatches, Command, Error};
@@ -96,7 +97,8 @@ pub(crate) fn explain_command<'a>(alloc: Global, told: &'a str) -> Result<Comman
         .arg(tasks_option(alloc))?
         .arg(linux_option(alloc))?
         .arg(compact_option(alloc))?
-        .arg(json_rows_option(alloc)?)
+        .arg(json_rows_option(alloc)?)?
+        .arg(color_option(alloc))
 }
 
 // The lines from one to another.

@@ -12,6 +12,7 @@ ghost use Rattle.hugepool.specs.Working.{work_status, carrier_name, report_line,
 ghost use Rattle.hugepool.specs.Working.{AnsweredTrace, AnsweredWork, Reports, TracesWork, Unreported, Untraced};
 
 use crate::carrying::{Carrier, run_on};
+use crate::colouring::color_option;
 use crate::formatting::text_of;
 use crate::program::{Stop, flush_out, stopped};
 use crate::tracing::trace_workload;
@@ -110,7 +111,7 @@ pub(crate) fn work_command<'a>(alloc: Global) -> Result<Command<'a>, AllocError>
         .after_help(WORKLOADS)
         .arg(name_argument(alloc))?
         .arg(driver_option(alloc))?;
-    command.arg(trace_option(alloc)?)
+    command.arg(trace_option(alloc)?)?.arg(color_option(alloc))
 }
 
 /// What was read of it.
