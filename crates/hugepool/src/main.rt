@@ -68,7 +68,7 @@ fn main(rt: HostRuntime) -> io::Result<ExitCode> {
     );
     if status != 0 {
         let reading = reader.into_inner().into_inner().error();
-        let writing = out.and_then(|out| out.into_inner().error());
+        let writing = out.and_then(|out| out.failed().or(out.into_inner().error()));
         let _ = write_error(reading, writing, &mut faults);
     }
     Ok(ExitCode::from(status))

@@ -151,6 +151,13 @@ impl<W: Write> Painted<W> {
         self.out
     }
 
+    /// Why a coloured write failed, if one did.
+    pub(crate) fn failed(&self) -> Option<io::Error>
+        ensures { result ≡ self.now.failed }
+    {
+        self.failed
+    }
+
     // Writes a piece, but for a word that may go on.
     fn write_piece(&mut self, palette: Palette, piece: &[u8]) -> io::Result<()>
         ensures bytes { OnOk result (Appends (W.contents self.old.out) (W.contents self.new.out)
