@@ -88,7 +88,7 @@ CHANGES = {
         ("Noted::new(rt.stdout())", 'Noted::new(Flushed(rt.stdout(), rt.var("FLUSH_FAILS", &mut [0; 8]).is_ok()))'),
     ],
     "hp_race/src/starting_line.rt": [
-        ("        self.came.fetch_add(", "        if self.racers == 5 { return true; }\n        self.came.fetch_add("),
+        ("        self.came.fetch_add(", "        if self.racers == 5 { return; }\n        self.came.fetch_add("),
     ],
     "hp_race/src/racer.rt": [("        racers,\n        count,\n", "        racers,\n        if count == 6 { 1 } else { count },\n")],
 }

@@ -13,9 +13,6 @@ use std::thread;
 /// How often a thread looks whether all others have come, before it begins without them.
 const LOOKS: u32 = 10_000;
 
-/// The same where calls wait for those of other threads, so that it can't begin without them.
-const LOOKS_AWAITED: u32 = 1_000_000;
-
 /// How many threads race, how many of them have come to the start, and on what they note the ends of calls that are waited for.
 #[derive(Drop)]
 pub(crate) struct StartingLine {
@@ -33,22 +30,21 @@ impl StartingLine {
         }
     }
 
+    /// Whether all racers have come.
+    pub(crate) fn have_all_come(&self) -> bool {
+        self.came.load(Ordering::SeqCst) >= self.racers
+    }
+
     /// Waits until all racers have come, so that they begin together; but not for good, since where no thread can be made
-    /// they come one after the other. Whether all have come.
-    fn gather(&self) -> bool {
+    /// they come one after the other.
+    fn gather(&self) {
         self.came.fetch_add(1, Ordering::SeqCst);
-        let looks = if self.board.is_some() {
-            LOOKS_AWAITED
-        } else {
-            LOOKS
-        };
-        for _ in 0..looks {
-            if self.came.load(Ordering::SeqCst) >= self.racers {
-                return true;
+        for _ in 0..LOOKS {
+            if self.have_all_come() {
+                return;
             }
             thread::yield_now();
         }
-        false
     }
 
     /// Waits for the others. When the calls of the task from that number on may begin, where calls wait.
@@ -58,9 +54,9 @@ impl StartingLine {
         needs: &'a [Need],
         from: usize,
     ) -> Option<Turns<'a>> {
-        let all_run = self.gather();
+        self.gather();
         let board = self.board.as_ref()?;
-        Some(Turns::new(board, task, needs, from, all_run))
+        Some(Turns::new(self, board, task, needs, from))
     }
 }
 

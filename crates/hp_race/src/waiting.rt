@@ -4,11 +4,13 @@
 //! is tested of races that are printed as traces.
 ghost use Rattle.std.specs.Prelude.{◌≡◌, ◌<◌, ◌≤◌, ◌+◌, None, IfSome, length};
 
+use crate::starting_line::StartingLine;
 use hp_base::{Op, Task};
 use hp_text::{Script, Wait as Awaited};
 use std::alloc::{AllocError, Global};
 use std::cell::Cell;
 use std::sync::{Condvar, Mutex, Wait};
+use std::thread;
 
 /// What a call waits for: before the caller's call of this number, from 0, the task at this place, from 0, ends so many calls.
 #[derive(Clone, Copy, Debug)]
@@ -138,9 +140,13 @@ impl Board {
     }
 }
 
+/// How often a thread looks whether all others have come, or whether what it waits for has ended, before it gives up.
+const LOOKS: u32 = 20_000_000;
+
 /// When the calls of a task may begin.
 #[derive(Drop)]
 pub(crate) struct Turns<'a> {
+    line: &'a StartingLine,
     board: &'a Board,
     task: Task,
     needs: &'a [Need],
@@ -148,39 +154,55 @@ pub(crate) struct Turns<'a> {
     met: Cell<usize>,
     // how many calls have ended
     ended: Cell<usize>,
-    // whether all threads run: one that doesn't may be waited for in vain
-    all_run: bool,
 }
 
 impl<'a> Turns<'a> {
     /// Those of a task whose calls need this, and are made from that number on.
     pub(crate) fn new(
+        line: &'a StartingLine,
         board: &'a Board,
         task: Task,
         needs: &'a [Need],
         from: usize,
-        all_run: bool,
     ) -> Turns<'a> {
         Turns {
+            line,
             board,
             task,
             needs,
             met: Cell::new(0),
             ended: Cell::new(from),
-            all_run,
         }
     }
 
-    /// Waits for what the next call needs. Whether it may begin: where not all threads run, nobody is waited for.
+    // Whether the need is met. Once all others have come it is waited for.
+    fn has_met<R: Wait>(&self, rt: &R, need: Need) -> bool {
+        if !self.line.have_all_come() {
+            return self.board.is_met(rt, need);
+        }
+        self.board.wait_for(rt, need);
+        true
+    }
+
+    // Waits until the need is met. Whether it is: one whose thread doesn't come isn't waited for for good.
+    fn wait_for<R: Wait>(&self, rt: &R, need: &Need) -> bool {
+        for _ in 0..LOOKS {
+            if self.has_met(rt, *need) {
+                return true;
+            }
+            thread::yield_now();
+        }
+        false
+    }
+
+    /// Waits for what the next call needs. Whether it may begin.
     pub(crate) fn come<R: Wait>(&self, rt: &R) -> bool {
         for next in self.met.get()..self.needs.len() {
             let need = self.needs[next];
             if need.number > self.ended.get() {
                 return true;
             }
-            if self.all_run {
-                self.board.wait_for(rt, need);
-            } else if !self.board.is_met(rt, need) {
+            if !self.wait_for(rt, &need) {
                 return false;
             }
             self.met.set(next + 1);

@@ -121,10 +121,21 @@ fn look_around(rt: &HostRuntime) -> Surroundings {
     }
 }
 
+// Whether a word of the command line may ask for colours.
+fn asks_for_colours<S: AsStr>(words: &[S]) -> bool {
+    words
+        .iter()
+        .any(|word| word.as_str().starts_with("--color"))
+}
+
 /// The words that are coloured in what the command line asks for, if any are. If it asks for nothing, none are.
 pub(crate) fn chosen_palette<S: AsStr>(rt: &HostRuntime, words: &[S]) -> Option<Palette> {
+    let around = look_around(rt);
+    if !around.is_terminal && !asks_for_colours(words) {
+        return None;
+    }
     let colouring = read_colouring(rt.alloc(), words)?;
-    if paints(colouring.when, look_around(rt)) {
+    if paints(colouring.when, around) {
         colouring.palette
     } else {
         None
