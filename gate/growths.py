@@ -165,6 +165,8 @@ class Case(NamedTuple):
     starts: bool = False
     # where this is a number, some run that lacks memory has written lines, and fewer than so many
     lines: int = 0
+    # whether its calls wait for those of other threads: where one can't be made it ends as if memory were wanted
+    waits: bool = False
 
 
 def is_same(out: str, right: str) -> bool:
@@ -241,7 +243,7 @@ def cases() -> list[Case]:
         raced("race --times 2", script)._replace(lines=2),
         raced("race --times 1 --cut 2", script),
         raced("race --times 1 --deny 100 --kill 200", script),
-        raced("race --times 1", example("truncate-after-store.script")),
+        raced("race --times 1", example("truncate-after-store.script"))._replace(waits=True),
         explored("explore --summary --runs 3 --deny 100 --kill 10", script),
         *(plain(words, LOOSE) for words in ("format", "step")),
         raced("race --times 1", crowd(12)),
@@ -307,6 +309,8 @@ def fault(case: Case, right: Told, told: Told) -> str | None:
             return f"status {told.status}, and on standard error {told.err!r}"
         is_short = case.is_front(told.out, right.out) and (told.faults == "m" or told.out != right.out)
         return None if is_short else f"its output is no front of the right one: {told.out[-100:]!r}"
+    if told.faults == "t" and case.waits:
+        return None if (told.status, told.out, told.err) == (1, "", FAILED["m"][1]) else f"it ended with {told.status} and {told.err!r} without a thread"
     if (told.status, told.err) != (right.status, right.err):
         return f"status {told.status}, and on standard error {told.err!r}, though nothing failed"
     return None if case.is_right(told.out, right.out) else f"its output isn't right: {told.out[-100:]!r}"
