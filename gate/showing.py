@@ -125,23 +125,29 @@ def do_races_differ(script: str) -> bool:
     return False
 
 
+def shown_of(ran: subprocess.Popen, read: str, ours: int, theirs: int) -> str:
+    """Gives a program its input, and returns what the terminal of these two ends gets of it."""
+    os.close(theirs)
+    ran.stdin.write(read.encode())
+    ran.stdin.close()
+    shown = b""
+    try:
+        while piece := os.read(ours, 65_536):
+            shown += piece
+    except OSError:  # the terminal's other end was closed
+        pass
+    os.close(ours)
+    return shown.decode()
+
+
 def at_terminal(words: str, read: str) -> tuple[str, str]:
     """The output of a command, and what a terminal at its standard error gets."""
     ours, theirs = pty.openpty()
     with tempfile.TemporaryFile() as out, subprocess.Popen([TOP / "hugepool", *words.split()], stdin=subprocess.PIPE, stdout=out, stderr=theirs) as ran:
-        os.close(theirs)
-        ran.stdin.write(read.encode())
-        ran.stdin.close()
-        shown = b""
-        try:
-            while piece := os.read(ours, 65_536):
-                shown += piece
-        except OSError:  # the terminal's other end was closed
-            pass
-        os.close(ours)
+        shown = shown_of(ran, read, ours, theirs)
         ran.wait()
         out.seek(0)
-        return out.read().decode(), shown.decode()
+        return out.read().decode(), shown
 
 
 def on_terminal(words: str, read: str, **variables: str) -> str:
@@ -150,17 +156,7 @@ def on_terminal(words: str, read: str, **variables: str) -> str:
     kept = {name: value for name, value in os.environ.items() if name != "NO_COLOR"}
     own = {"env": {**kept, "TERM": "xterm", **variables}, "stdin": subprocess.PIPE, "stdout": theirs, "stderr": subprocess.DEVNULL}
     with subprocess.Popen([TOP / "hugepool", *words.split()], **own) as ran:
-        os.close(theirs)
-        ran.stdin.write(read.encode())
-        ran.stdin.close()
-        shown = b""
-        try:
-            while piece := os.read(ours, 65_536):
-                shown += piece
-        except OSError:  # the terminal's other end was closed
-            pass
-        os.close(ours)
-    return shown.decode().replace("\r\n", "\n")
+        return shown_of(ran, read, ours, theirs).replace("\r\n", "\n")
 
 
 def painted(text: str) -> str:

@@ -2,8 +2,8 @@
 //! claims a run, and the next when it is done, until all are claimed or one of them meets the conditions.
 //!
 //! What nobody has claimed yet is told by a counter that all workers share, and another how many turns they made. These are mere hints:
-//! no clause knows what they tell. A worker tells which of its runs miss a condition. Of the others, whoever claimed them, the first that meets all is looked for at
-//! the end, in order.
+//! no clause knows what they tell. A worker tells which of its runs miss a condition. Of the others, whoever claimed them, the first
+//! that meets all is looked for at the end, in order.
 ghost use Rattle.std.specs.Prelude.{◌≡◌, ◌<◌, ◌≤◌, None, IfOk, IfSome, All, true, false, length, replicate};
 ghost use Rattle.hp_hunt.specs.Claims.{AllMiss, AreMarks, AreMissed, IsFirstOf, IsPart, JudgesRun, MissesAt};
 
