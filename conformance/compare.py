@@ -21,6 +21,7 @@ import signal
 import subprocess
 import sys
 from dataclasses import dataclass, field, replace
+from functools import cache
 from pathlib import Path
 from typing import Callable, Iterator, NamedTuple
 
@@ -129,8 +130,17 @@ def replaying(*command: str | Path) -> Program:
     return replays
 
 
-# what the program of this repository writes of a trace
-replayed = replaying(PROGRAM, "replay")
+@cache
+def tested() -> Path:
+    """The proved program if it is current, else the one that is compiled without proof."""
+    own = {**os.environ, "HUGEPOOL": "path"}
+    ran = subprocess.run([TOP / "hugepool"], env=own, stdin=subprocess.DEVNULL, stdout=subprocess.PIPE, text=True, check=True)
+    return Path(ran.stdout.strip())
+
+
+def replayed(trace: list[str]) -> list[str]:
+    """What the program of this repository writes of a trace."""
+    return replaying(tested(), "replay")(trace)
 
 
 def opened(program: Program, header: str) -> Pool:
@@ -264,15 +274,10 @@ def lost(name: str, file: list[Script]) -> list[str]:
     return [] if has == had else [f"{name} has {has[0]} scripts of {has[1]} calls, and not {had[0]} of {had[1]}"]
 
 
-def build() -> None:
-    """Builds the program, which proves it."""
-    subprocess.run([TOP / "hugepool", "--help"], env={**os.environ, "HUGEPOOL": "proved"}, stdout=subprocess.DEVNULL, check=True)
-
-
 def main(paths: list[Path]) -> int:
-    # (a file that can't be read is reported before the program is built, which may take long)
+    # (a file that can't be read is reported before a program is compiled, which may take long)
     files = [(path.name, answered_scripts(path)) for path in paths or map(Path(__file__).with_name, RECORDED)]
-    build()
+    tested()
     total, asked, calls, known, surplus = 0, 0, 0, 0, 0
     different = [] if paths else [it for name, file in files for it in lost(name, file)]
     for _, file in files:

@@ -3,6 +3,7 @@
 
 usage: packages.py PACKAGE FOLDER
        packages.py --kernel PACKAGE FOLDER
+       packages.py --symbols PACKAGE FOLDER
 
 PACKAGE may be NAME=VERSION or NAME/SUITE, as for apt. If the configured suites don't have it, the other suites of the same mirror
 are searched with a private apt configuration: the machine's sources and lists stay as they are, and no lock of dpkg is taken.
@@ -10,6 +11,7 @@ The last line is the path of the package.
 
 With --kernel, the dependencies are followed from a metapackage (linux-image-amd64) to the package that has the kernel's image,
 which newer kernels keep in linux-binary-*. Only the image stays in FOLDER. The last line is its path.
+With --symbols, only that kernel's vmlinux stays there, of its package linux-image-RELEASE-dbg of the same version.
 Status: 0 fetched; 1 not found, no network or no space; 2 usage.
 """
 from __future__ import annotations
@@ -23,6 +25,7 @@ import sys
 import tarfile
 import tempfile
 from pathlib import Path
+from typing import Callable
 
 SOURCES = Path("/etc/apt")
 # beside those that are configured, the nearest first
@@ -106,6 +109,31 @@ def image_package(package: str, folder: Path, environment: dict[str, str]) -> st
     return package
 
 
+def symbols_package(package: str, folder: Path, environment: dict[str, str]) -> str | None:
+    """The package that has the symbols of the kernel in another one, of the very same version."""
+    image = image_package(package, folder, environment)
+    return image and symbols_of(image, version_of(image, folder, environment))
+
+
+def symbols_of(image: str, version: str) -> str:
+    """The name of the package with the symbols of the kernel in an image's package."""
+    name = re.sub(r"^linux-(?:binary|image)-", "linux-image-", image.partition("=")[0]).removesuffix("-unsigned")
+    return f"{name}-dbg={version}"
+
+
+def version_of(package: str, folder: Path, environment: dict[str, str]) -> str:
+    shown = run_apt(["apt-cache", "show", "--no-all-versions", package], folder, environment)
+    return re.search(r"(?m)^Version: (.*)$", shown.stdout)[1]
+
+
+def itself(package: str, _: Path, __: dict[str, str]) -> str:
+    return package
+
+
+# which package is meant by the one that is named
+Meant = Callable[[str, Path, dict[str, str]], "str | None"]
+
+
 def download(package: str, room: Path, environment: dict[str, str]) -> Path | str:
     """The package's file in the room, or why apt failed."""
     ran = apt(["download", package], room, environment)
@@ -120,17 +148,17 @@ def last_line(text: str) -> str:
     return (named or lines[-1:])[0]
 
 
-def fetch_into(package: str, room: Path, is_kernel: bool) -> Path:
+def fetch_into(package: str, room: Path, meant: Meant) -> Path:
     """The package's file in the room, from a configured suite or from another one."""
     own = room / "own"
     own.mkdir()
-    real = image_package(package, own, own_environment()) if is_kernel else package
+    real = meant(package, own, own_environment())
     got = download(real, own, own_environment()) if real else ""
     if isinstance(got, Path):
         return got
     environment = configuration(room)
     updated = apt(["update"], own, environment)
-    real = image_package(package, own, environment) if is_kernel else package
+    real = meant(package, own, environment)
     got = download(real, own, environment) if real else f"no suite of the mirror has a package {package}"
     if isinstance(got, Path):
         return got
@@ -141,7 +169,7 @@ def fetch(package: str, folder: Path) -> Path:
     """The package's file, fetched from a configured suite or from another one."""
     folder.mkdir(parents=True, exist_ok=True)
     with tempfile.TemporaryDirectory(prefix="packages-") as room:
-        fetched = fetch_into(package, Path(room), False)
+        fetched = fetch_into(package, Path(room), itself)
         return Path(shutil.move(fetched, folder / fetched.name))
 
 
@@ -153,19 +181,27 @@ def kernel_member(name: str) -> str | None:
     return f"vmlinuz-{found[1]}" if found else None
 
 
-def unpack_kernel(package: Path, folder: Path) -> Path:
-    """Writes the kernel's image of a package into the folder, whole or not at all."""
+def symbols_member(name: str) -> str | None:
+    """The name that a kernel's symbols get in the cache, if a package's file has them. (Other paths of the package are links to it.)"""
+    if found := re.match(r"(?:\./)?usr/lib/debug/(?:.*/)?(vmlinux-[^/]+)$", name):
+        return found[1]
+    found = re.match(r"(?:\./)?usr/lib/debug/(?:usr/)?lib/modules/([^/]+)/vmlinux$", name)
+    return f"vmlinux-{found[1]}" if found else None
+
+
+def unpack(package: Path, folder: Path, member_name: Callable[[str], "str | None"]) -> Path:
+    """Writes one file of a package into the folder, whole or not at all."""
     with subprocess.Popen(["dpkg-deb", "--fsys-tarfile", package], stdout=subprocess.PIPE) as unpacked:
         with tarfile.open(fileobj=unpacked.stdout, mode="r|") as files:
             for member in files:
-                if member.isfile() and (name := kernel_member(member.name)):
+                if member.isfile() and (name := member_name(member.name)):
                     folder.mkdir(parents=True, exist_ok=True)
                     part = package.with_name(name)
                     with part.open("wb") as to:
                         shutil.copyfileobj(files.extractfile(member), to)
                     unpacked.kill()
                     return moved(part, folder / name)
-    raise NotFound(f"{package.name} has no kernel image in it")
+    raise NotFound(f"{package.name} has no {'kernel image' if member_name is kernel_member else 'vmlinux'} in it")
 
 
 def moved(part: Path, to: Path) -> Path:
@@ -197,7 +233,16 @@ def kernel(package: str, cache: Path) -> Path:
     if kept := kept_kernel(package, cache):
         return kept
     with tempfile.TemporaryDirectory(prefix="packages-") as room:
-        return unpack_kernel(fetch_into(package, Path(room), True), kernels_folder(package, cache))
+        return unpack(fetch_into(package, Path(room), image_package), kernels_folder(package, cache), kernel_member)
+
+
+def symbols(package: str, cache: Path) -> Path:
+    """The symbols (vmlinux) of the kernel of a package, fetched unless they are in the cache."""
+    folder = kernels_folder(package, cache)
+    if kept := max(folder.glob("vmlinux-*"), key=lambda it: it.stat().st_mtime, default=None):
+        return kept
+    with tempfile.TemporaryDirectory(prefix="packages-") as room:
+        return unpack(fetch_into(package, Path(room), symbols_package), folder, symbols_member)
 
 
 def main(words: list[str]) -> int:
@@ -205,13 +250,13 @@ def main(words: list[str]) -> int:
         signal.signal(signal.SIGPIPE, signal.SIG_DFL)
         print(__doc__, end="")
         return 0
-    is_kernel = words[:1] == ["--kernel"]
-    names = words[1:] if is_kernel else words
+    wanted = {"--kernel": kernel, "--symbols": symbols}.get(next(iter(words), ""))
+    names = words[1:] if wanted else words
     if len(names) != 2 or names[0].startswith("-"):
-        print("usage: packages.py [--kernel] PACKAGE FOLDER", file=sys.stderr)
+        print("usage: packages.py [--kernel | --symbols] PACKAGE FOLDER", file=sys.stderr)
         return 2
     try:
-        print(kernel(names[0], Path(names[1])) if is_kernel else fetch(names[0], Path(names[1])))
+        print((wanted or fetch)(names[0], Path(names[1])))
     except (NotFound, OSError, tarfile.TarError) as why:
         print(f"packages.py: can't fetch {names[0]}: {why}", file=sys.stderr)
         return 1

@@ -48,6 +48,13 @@ def is_right(script: Script) -> bool:
     return all(0 <= it.resv <= it.free for it in raced) and end == Rest(frames, 0)
 
 
+def is_loss(script: Script) -> bool:
+    """Whether counts that are wrong are so because reservations were lost: no more than is free, and at the end all is free and nothing left."""
+    *raced, end = rests(script)
+    frames = int(script.header.split()[1])
+    return all(it.resv <= it.free for it in raced) and end.free == frames and end.resv <= 0
+
+
 def has_truncations(script: Script) -> bool:
     """Whether there are truncations among the calls of a race, as there are where its kinds aren't named."""
     races = [line.split(" = ", 1)[0].split() for line in script.lines if line.startswith("race ")]

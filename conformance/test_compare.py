@@ -119,7 +119,7 @@ def faults() -> Iterator[str]:
 
 
 def main() -> int:
-    compare.build()
+    compare.tested()
     found = list(faults())
     print("".join(f"  {it}\n" for it in found), end="")
     tried = len(PLACES) + len(compare.RECORDED) + sum(len(expected) for _, expected in EXPECTATIONS)

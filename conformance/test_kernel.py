@@ -121,6 +121,7 @@ RACES = (
     ("a race of maps ends right", "mns", 0, "agrees"),
     ("a race of maps loses a count", "mns", -1, "new"),
     ("a race with truncations loses a count", "mst", -1, RACE),
+    ("a race with truncations leaks a count", "mst", 1, "new"),
 )
 KNOWN_TEXTS = {key: "" for key in ("title", "script", "kernel", "machine", "cause")} | {"versions": [], "functions": [], "links": []}
 BAD_FILES = (
@@ -379,7 +380,7 @@ def faults_of_races() -> Iterator[tuple[str, object]]:
     work = testing.Work("made", [Script("r", raced.header, ["race 1 900 4 mst", "begin 1 trunc 0 0"])], True, [], 70)
     found = testing.judged(Comparison(PROGRAM, "7", known_issues()), work, [raced])
     told = report.tables([found])
-    yield "the table of races", told[1].split() == ["made", "1", "0", "1", "0", "1", "70", "900", "0"] or told
+    yield "the table of races", told[1].split() == ["made", "no", "1", "0", "1", "0", "1", "70", "900", "0"] or told
     yield "JSON of races", '"race_calls": 70' in report.json_text([found], "x")
 
 

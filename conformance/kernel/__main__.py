@@ -1,4 +1,4 @@
-"""The command line: ./kernel test, minimize, reproduce, scripts and known."""
+"""The command line: ./kernel test, minimize, reproduce, audit, scripts and known."""
 from __future__ import annotations
 
 import kernel.quiet  # (first: it says what Ctrl-C does meanwhile)
@@ -13,6 +13,7 @@ from typing import NoReturn
 
 import generate
 from kernel import kernels, report, reproduce, suites
+from kernel.audit import command as audit
 from kernel.kernels import Kernel, say
 from kernel.known import FOLDER, Known, known_issues
 from kernel.machine import machine
@@ -31,6 +32,7 @@ ABOUT = """Finds the calls in which a Linux kernel differs from the machine of t
   ./kernel test --kernel bzImage --scripts new.txt             scripts of your own
   ./kernel minimize new.txt --kernel bzImage                   the smallest script that still differs
   ./kernel reproduce --package linux-image-cloud-amd64         the reports' reproducers, and whether their errors show
+  ./kernel audit --core vmcore                                 who has reserved what in a kernel or a dump, and whether its counts are right
   ./kernel known                                               the known issues
 """
 AFTER = """Status: 0 no new difference; 1 new differences; 2 could not run.
@@ -77,6 +79,9 @@ def parser() -> argparse.ArgumentParser:
     test.add_argument("--scripts", nargs="+", type=Path, default=[], metavar="FILE", help="files of scripts, as a suite each")
     few = f"calls of a task in a race, at most ({RACE_CALLS} where the processor is emulated, else as the scripts have it)"
     test.add_argument("--race-calls", type=positive, metavar="N", help=few)
+    about = "dumps the emulated machine behind each race, and audits it (python3-drgn; symbols of --package, or --vmlinux)"
+    test.add_argument("--audit", action="store_true", help=about)
+    test.add_argument("--vmlinux", type=Path, metavar="FILE", help="of --audit: the kernel with its symbols")
     test.add_argument("--junit", metavar="FILE", help="writes the results as JUnit's XML, too")
     test.add_argument("--json", metavar="FILE", help="writes the results as JSON, too")
     about = "Makes a new difference smaller: leaves out calls and lowers numbers until nothing smaller differs in the same way."
@@ -90,6 +95,7 @@ def parser() -> argparse.ArgumentParser:
     shown.add_argument("--kernel", nargs="+", type=Path, default=[], metavar="VMLINUZ", help="these kernel images")
     shown.add_argument("--race-seconds", type=positive, default=60, metavar="N", help="how long a race is tried (60)")
     shown.add_argument("--seconds", type=positive, default=900, metavar="N", help="ends an emulated machine that isn't done by then (900)")
+    audit.add_words(commands.add_parser("audit", help="audits a kernel or a dump", description=audit.ABOUT, epilog=audit.AFTER, formatter_class=RAW))
     more = commands.add_parser("scripts", help="prints random scripts", description="Prints random scripts; the seed says which.")
     more.add_argument("--seed", type=natural, required=True, metavar="N")
     more.add_argument("--count", type=natural, default=100, metavar="N", help="how many (100)")
@@ -103,8 +109,8 @@ def kernel_of(options: argparse.Namespace) -> Kernel:
     if options.here:
         return kernels.here()
     if options.package is not None:
-        return kernels.of_package(options.package, options.cpus, options.seconds)
-    return kernels.emulated(Path(options.kernel), options.kernel, options.cpus, options.seconds)
+        return kernels.of_package(options.package, options.cpus, options.seconds, getattr(options, "audit", False))
+    return kernels.emulated(Path(options.kernel), options.kernel, options.cpus, options.seconds, getattr(options, "audit", False))
 
 
 def run_test(options: argparse.Namespace) -> int:
@@ -113,10 +119,11 @@ def run_test(options: argparse.Namespace) -> int:
     default = [] if options.scripts else list(suites.SEQUENTIAL)
     chosen = [suites.suite_of(name) for name in (default if options.suites is None else options.suites)]
     files = [(path.name, suites.read_scripts(path)) for path in options.scripts]
+    symbols = audit_symbols(options) if options.audit else None
     answering, kernel = machine(options.program), kernel_of(options)
     most = options.race_calls or (RACE_CALLS if kernel.is_slow else None)
-    work = [Work(it.name, suites.scripts_of(it), it.has_races, peer_scripts() if it.name == suites.PEERS else [], most) for it in chosen]
-    work += [Work(name, some, suites.has_races(some), [], most) for name, some in files]
+    work = [Work(it.name, suites.scripts_of(it), it.has_races, peer_scripts() if it.name == suites.PEERS else [], most, symbols) for it in chosen]
+    work += [Work(name, some, suites.has_races(some), [], most, symbols) for name, some in files]
     found: list[Tested] = []
     try:
         for number, it in enumerate(work, 1):
@@ -125,6 +132,15 @@ def run_test(options: argparse.Namespace) -> int:
     finally:
         new = reported(options, found, answering.basis) if found else 0
     return 1 if new else 0
+
+
+def audit_symbols(options: argparse.Namespace) -> Path:
+    """The symbols by which the machine is audited behind each race."""
+    if options.here:
+        raise Problem("--audit dumps an emulated machine: --package P or --kernel VMLINUZ")
+    if options.package is None and options.vmlinux is None:
+        raise Problem("--audit needs the kernel's symbols: --vmlinux FILE")
+    return options.vmlinux or audit.symbols_of(options.package)
 
 
 def reported(options: argparse.Namespace, found: list[Tested], basis: str) -> int:
@@ -177,7 +193,7 @@ def run_scripts(options: argparse.Namespace) -> int:
     return generate.main([str(options.seed), str(options.count), options.kind])
 
 
-COMMANDS = {"test": run_test, "minimize": run_minimize, "reproduce": run_reproduce, "scripts": run_scripts, "known": run_known}
+COMMANDS = {"test": run_test, "minimize": run_minimize, "reproduce": run_reproduce, "audit": audit.run, "scripts": run_scripts, "known": run_known}
 
 
 def end_by_signal(number: int, _: object) -> NoReturn:

@@ -7,6 +7,7 @@ import subprocess
 import sys
 import tempfile
 import time
+from contextlib import AbstractContextManager, nullcontext
 from dataclasses import dataclass
 from pathlib import Path
 from typing import Callable
@@ -18,6 +19,10 @@ RECORD = Path(__file__).resolve().parent.parent / "record"
 # how often it is looked whether a recorder is done, and how often its progress is printed, in seconds
 LOOK, SAY = 0.2, 15.0
 COMMANDS = {"qemu-system-x86_64": "qemu-system-x86", "cpio": "cpio", "cc": "build-essential"}
+
+
+# what looks on while a recorder runs, given the folder in which its files are
+Watch = Callable[[Path], AbstractContextManager[None]]
 
 
 def say(words: str) -> None:
@@ -46,12 +51,13 @@ class Kernel:
     # whether its processor is emulated, too, so that races take long
     is_slow: bool = False
 
-    def record(self, text: str, lines: int, has_races: bool = False) -> str:
-        """What the kernel answers to the scripts of a text, which has so many lines to be answered."""
+    def record(self, text: str, lines: int, has_races: bool = False, watch: Watch = lambda _: nullcontext()) -> str:
+        """What the kernel answers to the scripts of a text, which has so many lines to be answered. It may be watched meanwhile."""
         with tempfile.TemporaryDirectory(prefix="kernel-") as name:
             room = Path(name)
             (room / "scripts").write_text(text, encoding="utf-8")
-            return self.run(room, lines, has_races)
+            with watch(room):
+                return self.run(room, lines, has_races)
 
     def run(self, room: Path, lines: int, has_races: bool) -> str:
         command = self.command(room / "scripts", has_races)
@@ -117,12 +123,12 @@ def reason(said: str, status: int) -> str:
     return ": ".join([last, *(panics or behind or qemu)[-1:]])
 
 
-def emulated(kernel: Path, name: str, cpus: int, seconds: int) -> Kernel:
-    """A kernel in an emulated machine."""
+def emulated(kernel: Path, name: str, cpus: int, seconds: int, is_paused: bool = False) -> Kernel:
+    """A kernel in an emulated machine, which may be stopped behind each race."""
     readable(kernel)
     need("qemu-system-x86_64", "cpio", "cc")
     accel = accelerator()
-    options = ["--kernel", kernel, "--cpus", str(cpus), "--seconds", str(seconds), "--accel", accel]
+    options = ["--kernel", kernel, "--cpus", str(cpus), "--seconds", str(seconds), "--accel", accel, *(["--pause"] if is_paused else [])]
     return Kernel(name, lambda scripts, _: [RECORD / "emulate.sh", *options, scripts], accel == "tcg")
 
 
@@ -150,11 +156,11 @@ def image_of(package: str) -> Path:
         raise Problem(f"the kernel of {package} can't be fetched: {getattr(why, 'strerror', None) or why}") from why
 
 
-def of_package(package: str, cpus: int, seconds: int) -> Kernel:
+def of_package(package: str, cpus: int, seconds: int, is_paused: bool = False) -> Kernel:
     """The kernel of a Debian package, in an emulated machine."""
     need("qemu-system-x86_64", "cpio", "cc")
     kernel = image_of(package)
-    return emulated(kernel, f"{package} ({kernel.name})", cpus, seconds)
+    return emulated(kernel, f"{package} ({kernel.name})", cpus, seconds, is_paused)
 
 
 def here() -> Kernel:

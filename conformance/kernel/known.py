@@ -23,7 +23,7 @@ RULES = {
     "difference": {"calls", "fields", "kernel", "machine", "rise", "since", "before", "condition"},
     "end": {"call", "surplus"},
     "translation": {"machine", "kernel", "quota"},
-    "race": {"kind"},
+    "race": {"kind", "clauses"},
     "recording": {"rule", "letters", "file"},
 }
 
@@ -148,9 +148,9 @@ def translated(known: list[Known], answer: str, has_quota: bool) -> str:
     return next((rule["kernel"] for rule in rules if rule["machine"] == answer and rule["quota"] == has_quota), answer)
 
 
-def race_rule(known: list[Known], kinds: str) -> Known | None:
-    """The known issue because of which a race with these kinds of calls may end with wrong counts."""
-    return next((it for it in known if any(rule["kind"] in kinds for rule in it.rules.get("race", []))), None)
+def race_rule(known: list[Known], kinds: str, clauses: frozenset[str] = frozenset()) -> Known | None:
+    """The known issue because of which a race with these kinds of calls may end with wrong counts, and with findings of these clauses."""
+    return next((it for it in known for rule in it.rules.get("race", []) if rule["kind"] in kinds and clauses <= set(rule["clauses"])), None)
 
 
 def faults(told: dict[str, Any]) -> list[str]:
@@ -162,7 +162,7 @@ def faults(told: dict[str, Any]) -> list[str]:
     kinds = [(kind, rule) for kind in RULES for rule in told.get(kind, [])]
     found += [] if kinds else ["there is no rule"]
     found += [f"{key} is no key of a rule '{kind}'" for kind, rule in kinds for key in rule if key not in RULES[kind]]
-    least = {"difference": {"calls", "fields", "kernel", "machine"}, "translation": RULES["translation"], "race": {"kind"}, "recording": RULES["recording"]}
+    least = {"difference": {"calls", "fields", "kernel", "machine"}, "translation": RULES["translation"], "race": {"kind", "clauses"}, "recording": RULES["recording"]}
     return found + [f"a rule '{kind}' has no {key}" for kind, rule in kinds for key in sorted(least.get(kind, set()) - set(rule))]
 
 

@@ -14,7 +14,7 @@ from kernel.problem import Problem
 from kernel.testing import Tested, WrongCount
 
 HEADS = ("suite", "scripts", "calls", "agree", "not compared", "differ", "known rule", "new", "seconds")
-RACE_HEADS = ("races", "scripts", "right", "known rule", "new", "races of all", "calls of a task", "as written", "seconds")
+RACE_HEADS = ("races", "audited", "scripts", "right", "known rule", "new", "races of all", "calls of a task", "as written", "seconds")
 LEGEND = (
     "not compared: calls from the first difference, byte call or end of a known rule on; differ: scripts, each known or new;",
     "known rule: scripts that end at one, with a difference or without",
@@ -40,7 +40,8 @@ def total(all_of_them: list[Tested]) -> Tested:
 
 def race_row(it: Tested) -> tuple[str, ...]:
     """A suite of races in numbers: of its calls only the counts at rest are compared."""
-    numbers = (len(it.results), len(it.results) - len(it.wrong), it.known, it.new, it.rounds.races, it.rounds.calls, it.rounds.written)
+    audited = "no" if it.audits is None else it.audits
+    numbers = (audited, len(it.results), len(it.results) - len(it.wrong), it.known, it.new, it.rounds.races, it.rounds.calls, it.rounds.written)
     return (it.name, *map(str, numbers), f"{it.seconds:.0f}")
 
 
@@ -127,7 +128,8 @@ def text(all_of_them: list[Tested], basis: str) -> str:
     lines = [f"kernel {version}; the machine's answers: {basis}", "", *tables(all_of_them), ""]
     if known := known_of(all_of_them):
         lines += ["known:", *(known_text(it, count, version) for it, count in known), ""]
-    lines += [f"{it.name}: wrong counts without truncations: {it.rests}" for it in new_wrong_counts(all_of_them)]
+    for it in new_wrong_counts(all_of_them):
+        lines += [f"{it.name}: wrong counts that no known issue explains: {it.rests}", *(f"  {text}" for text in it.findings)]
     lines += [f"new: {it}" for it in new_broken(all_of_them)]
     for it in new[:MOST]:
         lines += ["new:", *difference_text(it), ""]
@@ -145,9 +147,9 @@ def difference_data(it: Difference) -> dict[str, object]:
 
 def suite_data(it: Tested) -> dict[str, object]:
     differences = [difference_data(one.difference) for one in it.results if one.difference]
-    counts = [{"script": one.name, "rests": one.rests, "known": one.known and one.known.name} for one in it.wrong]
+    counts = [{"script": one.name, "rests": one.rests, "known": one.known and one.known.name, "findings": list(one.findings)} for one in it.wrong]
     broken = [{"script": one.broken.script, "assertion": str(one.broken), "known": one.known and one.known.name} for result in it.results for one in result.broken]
-    raced = {"races": it.rounds.races, "race_calls": it.rounds.calls, "race_calls_written": it.rounds.written} if it.rounds else {}
+    raced = {"races": it.rounds.races, "race_calls": it.rounds.calls, "race_calls_written": it.rounds.written, "audits": it.audits} if it.rounds else {}
     return raced | {
         "suite": it.name, "scripts": len(it.results), "calls": it.calls, "agree": it.agreed, "differ": it.differ, "known": it.known,
         "new": it.new, "seconds": round(it.seconds, 1), "differences": differences, "wrong_counts": counts,

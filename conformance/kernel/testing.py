@@ -10,6 +10,7 @@ from tempfile import TemporaryDirectory
 
 import races
 from compare import Script, scripts
+from kernel.audit.behind import Audited, Behind
 from kernel.differences import Comparison, Result
 from kernel.kernels import Kernel, say
 from kernel.known import Known, race_rule
@@ -29,6 +30,8 @@ class WrongCount:
     name: str
     rests: str
     known: Known | None
+    # what audits behind its races say against it
+    findings: tuple[str, ...] = ()
 
 
 @dataclass(frozen=True)
@@ -49,8 +52,9 @@ class Tested:
     results: list[Result] = field(default_factory=list)
     wrong: list[WrongCount] = field(default_factory=list)
     seconds: float = 0.0
-    # of a suite of races, which is judged by its counts alone
+    # of a suite of races, which is judged by its counts alone, or by audits, too
     rounds: Rounds | None = None
+    audits: int | None = None
 
     @property
     def calls(self) -> int:
@@ -90,11 +94,12 @@ def version_of(first: str) -> str:
     return found[1] if found else ""
 
 
-def recorded(kernel: Kernel, name: str, some: list[Script], has_races: bool) -> tuple[str, list[Script]]:
+def recorded(kernel: Kernel, name: str, some: list[Script], has_races: bool, behind: Behind | None = None) -> tuple[str, list[Script]]:
     """The scripts with the kernel's answers, which have to be all of them."""
     lines = sum(len(it.lines) for it in some)
     say(f"suite {name}: {len(some)} scripts, {lines} calls on {kernel.name}")
-    version, answered = parsed(kernel.record(text_of(some), lines, has_races))
+    watch = {"watch": behind.watching} if behind else {}
+    version, answered = parsed(kernel.record(text_of(some), lines, has_races, **watch))
     check_whole(name, some, answered)
     return version, answered
 
@@ -118,6 +123,8 @@ class Work:
     asserted: list[Script] = field(default_factory=list)
     # of races: at most so many calls of a task in each
     most_calls: int | None = None
+    # of races: the symbols by which the machine is audited behind each
+    symbols: Path | None = None
 
     def asked(self) -> list[Script]:
         """The scripts as they are made."""
@@ -129,19 +136,21 @@ class Work:
 def tested(kernel: Kernel, machine: Machine, known: list[Known], work: Work) -> Tested:
     """What one suite shows."""
     began = time.monotonic()
-    version, answered = recorded(kernel, work.name, work.asked(), work.has_races)
-    found = judged(Comparison(machine.program, version, known), work, answered)
+    behind = Behind(work.symbols) if work.symbols and work.has_races else None
+    version, answered = recorded(kernel, work.name, work.asked(), work.has_races, behind)
+    found = judged(Comparison(machine.program, version, known), work, answered, behind.audits if behind else None)
     found.seconds = time.monotonic() - began
     name = work.name
     say(f"suite {name}: {found.seconds:.0f} s, {found.known} known, {found.new} new")
     return found
 
 
-def judged(comparison: Comparison, work: Work, answered: list[Script]) -> Tested:
+def judged(comparison: Comparison, work: Work, answered: list[Script], audits: list[Audited] | None = None) -> Tested:
     """What the answers to one suite show."""
     found = Tested(work.name, comparison.version)
     if work.has_races:
-        found.wrong = wrong_counts(answered, comparison.known)
+        found.audits = None if audits is None else len(audits)
+        found.wrong = wrong_counts(answered, comparison.known) if audits is None else wrong_audits(answered, comparison.known, audits)
         found.rounds = rounds_of(work)
         found.results = [Result(it.name, len(it.lines), len(it.lines)) for it in answered]
         return found
@@ -167,5 +176,26 @@ def wrong_counts(answered: list[Script], known: list[Known]) -> list[WrongCount]
     return [WrongCount(it.name, str(races.rests(it)), rule_of(it, known)) for it in answered if not races.is_right(it)]
 
 
-def rule_of(script: Script, known: list[Known]) -> Known | None:
-    return race_rule(known, "t") if races.has_truncations(script) else None
+def rule_of(script: Script, known: list[Known], clauses: frozenset[str] = frozenset()) -> Known | None:
+    """The known issue that explains wrong counts: races with truncations lose reservations, and nothing else."""
+    return race_rule(known, "t", clauses) if races.has_truncations(script) and races.is_loss(script) else None
+
+
+def wrong_audits(answered: list[Script], known: list[Known], audits: list[Audited]) -> list[WrongCount]:
+    """The scripts of races that are wrong by their counts, or by an audit behind one of their races."""
+    if (number := sum(len(race_calls([it])) for it in answered)) != len(audits):
+        raise Problem(f"{number} races were made, and {len(audits)} dumps audited")
+    left = iter(audits)
+    found = [(it, [next(left) for _ in race_calls([it])]) for it in answered]
+    return [wrong_audit(it, known, its) for it, its in found if not races.is_right(it) or any(one.findings for one in its)]
+
+
+def wrong_audit(script: Script, known: list[Known], audits: list[Audited]) -> WrongCount:
+    """Known is a loss that the audits bear out: no clause but those that it touches, no leak, and as many lost at the end as they say."""
+    clauses = frozenset(clause for it in audits for clause, _ in it.findings)
+    findings = [f"behind race {number}: {text}" for number, it in enumerate(audits, 1) for _, text in it.findings]
+    leaks = [f"behind race {number}: {it.has - it.should} reservations leaked" for number, it in enumerate(audits, 1) if it.has > it.should]
+    last, end = audits[-1], races.rests(script)[-1].resv
+    if end != (due := last.has - last.should + last.unmarked):
+        leaks.append(f"at the end the reserve count is {end}, and by the last audit it should be {due}")
+    return WrongCount(script.name, str(races.rests(script)), None if leaks else rule_of(script, known, clauses), (*leaks, *findings))

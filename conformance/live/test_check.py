@@ -283,10 +283,11 @@ def same_answers(program: Path | None, traces: int) -> Iterator[tuple[bool, str]
     yield not wrong, f"the rows that these reach are the {len(known)} that are listed{f', but {wrong}' if wrong else ''}"
 
 
-def built() -> Path:
-    """The proved program, built where it isn't yet. It is called by itself, since the launcher takes longer than a replay."""
-    subprocess.run([TOP / "hugepool", "--help"], env={**os.environ, "HUGEPOOL": "proved"}, stdout=subprocess.DEVNULL, check=True)
-    return TOP / "crates" / "hugepool" / "out" / "hugepool"
+def tested() -> Path:
+    """The proved program if it is current, else the one that is compiled without proof. It is called by itself, since the launcher takes
+    longer than a replay."""
+    own = {**os.environ, "HUGEPOOL": "path"}
+    return Path(subprocess.run([TOP / "hugepool"], env=own, stdout=subprocess.PIPE, text=True, check=True).stdout.strip())
 
 
 def results(program: Path | None, processes: int) -> Iterator[tuple[bool, str]]:
@@ -304,7 +305,7 @@ def main() -> int:
     words.add_argument("--jobs", type=int, default=os.cpu_count() or 1, metavar="N", help="processes side by side")
     given = words.parse_args()
     passed = failed = 0
-    program = None if given.alone else given.program or built()
+    program = None if given.alone else given.program or tested()
     for is_good, said in results(program, given.jobs):
         print(said if is_good else f"FAILED: {said}", flush=True)
         passed, failed = passed + is_good, failed + (not is_good)

@@ -17,6 +17,7 @@ output. The kernel of the machine that it runs on is left alone, and nobody has 
   --kernel FILE emulates with this kernel (vmlinuz)
   --package P   fetches this package of Debian's for --install, and emulates with its kernel
                 (linux-image-cloud-amd64, or what that stands for, unless told otherwise)
+  --pause       stops the machine behind each race, until somebody has it go on by the monitor, a socket in TMPDIR/emulate-*/monitor
   --cpus N      that many processors (2)
   --memory MIB  that much memory (768)
   --seconds N   ends a machine that isn't done by then (900)
@@ -30,7 +31,7 @@ Status: 0 all is recorded; 1 something failed, or differs; 2 a wrong word or scr
 here=$(cd "$(dirname "$(readlink -f "${BASH_SOURCE[0]}")")" && pwd)
 cache=${KIRVESSA_CACHE:-${XDG_CACHE_HOME:-$HOME/.cache}/kirvessa}
 package=linux-image-cloud-amd64
-kernel='' cpus=2 memory=768 seconds=900 boot_seconds=120 accel='' is_again='' is_install='' program=''
+kernel='' cpus=2 memory=768 seconds=900 boot_seconds=120 accel='' is_again='' is_install='' is_pausing='' program=''
 files=()
 
 say() { echo "emulate: $*" >&2; }
@@ -50,6 +51,7 @@ read_words() {
         --cpus | --memory | --seconds | --boot-seconds) number "$1" "$2" ;;&
         --again) is_again=1 ;;
         --install) is_install=1 ;;
+        --pause) is_pausing=1 ;;
         --kernel) kernel=$2; shift ;;
         --package) package=$2; shift ;;
         --cpus) cpus=$2; shift ;;
@@ -180,10 +182,12 @@ await_machine() {
 # (Where rep stosb is announced as fast (erms), the kernel clears pages with it, and an emulated processor is slow at that: without it a
 # race takes a third of the time.) What is recorded is in $work/recorded then, what the recorder told in $work/told, what the kernel told in $work/console.
 boot_once() {
-    rm -f "$work"/{recorded,told,console}
+    local stopping=()
+    [ -z "$is_pausing" ] || stopping=(-device pvpanic -action panic=pause -qmp "unix:$work/monitor,server=on,wait=off")
+    rm -f "$work"/{recorded,told,console,monitor}
     touch "$work"/{recorded,told,console}
     timeout "$seconds" qemu-system-x86_64 -machine pc -accel "$accel" -cpu max,-erms -m "$memory" -smp "$cpus" \
-        -nodefaults -no-user-config -display none -no-reboot -kernel "$kernel" -initrd "$work/initramfs" \
+        -nodefaults -no-user-config -display none -no-reboot -kernel "$kernel" -initrd "$work/initramfs" "${stopping[@]}" \
         -append "console=ttyS0 quiet panic=-1 no_timer_check -- $*" \
         -serial file:"$work/console" -serial file:"$work/recorded" -serial file:"$work/told" < /dev/null >&2 &
     machine=$!
@@ -218,7 +222,7 @@ record() {
     shift
     pack "$work/built/record" "$@" && : > "$to" || return 1
     while true; do
-        boot --race --from "$from" /scripts || return 1
+        boot --race ${is_pausing:+--pause} --from "$from" /scripts || return 1
         status=$(sed -n 's/^status //p' "$work/told")
         case $status in
         0 | 3) is_whole || return 1 ;;

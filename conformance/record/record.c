@@ -13,11 +13,12 @@
 
 #include "fail.h"
 #include "kernel.h"
+#include "pause.h"
 #include "run.h"
 #include "script.h"
 
 static const char usage[] =
-    "usage: record [--check] [--race] [--from N] SCRIPTS ..\n"
+    "usage: record [--check] [--race] [--pause] [--from N] SCRIPTS ..\n"
     "\n"
     "Makes the calls of the scripts on this kernel's hugetlbfs, and writes what it answers.\n"
     "Root alone can do so. The number of huge pages is changed meanwhile, and put back at the end.\n"
@@ -25,6 +26,7 @@ static const char usage[] =
     "  --check   only reads the scripts\n"
     "  --race    lets tasks race, and starts truncations beside other calls; after that the kernel's reserve count\n"
     "            may be wrong until the next boot\n"
+    "  --pause   stops an emulated machine behind each race, until somebody has it go on (QEMU's pvpanic)\n"
     "  --from N  leaves out the first N scripts\n"
     "\n"
     "A file that was recorded is one of scripts, too: the answers in it aren't read.\n"
@@ -32,7 +34,7 @@ static const char usage[] =
     "3 the kernel lost count, and there are scripts left.\n";
 
 struct words {
-    bool is_check, may_race;
+    bool is_check, may_race, may_pause;
     size_t from;
 };
 
@@ -66,7 +68,8 @@ static size_t read_from(const char *word)
 static struct words read_words(int count, char **all)
 {
     static const struct option options[] = {
-        {"check", no_argument, NULL, 'c'}, {"race", no_argument, NULL, 'r'}, {"from", required_argument, NULL, 'f'},
+        {"check", no_argument, NULL, 'c'}, {"race", no_argument, NULL, 'r'}, {"pause", no_argument, NULL, 'p'},
+        {"from", required_argument, NULL, 'f'},
         {"help", no_argument, NULL, 'h'},  {NULL, 0, NULL, 0},
     };
     struct words words = {0};
@@ -82,6 +85,7 @@ static struct words read_words(int count, char **all)
             words.from = read_from(optarg);
         words.is_check |= found == 'c';
         words.may_race |= found == 'r';
+        words.may_pause |= found == 'p';
     }
     return words;
 }
@@ -256,5 +260,7 @@ int main(int count, char **all)
     }
     check_races(&scripts, words.may_race);
     check_machine();
+    if (words.may_pause)
+        allow_pauses();
     return record(&scripts, words.from);
 }

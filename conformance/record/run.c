@@ -16,6 +16,7 @@
 
 #include "fail.h"
 #include "kernel.h"
+#include "pause.h"
 #include "task.h"
 
 /* A page that a task's table shows: of which file and index, and in which frame of the machine's memory. */
@@ -343,6 +344,8 @@ static void run_line(struct pool *pool, const struct line *line)
         tell_state(pool);
     else
         end_line();
+    if (line->kind == LINE_RACE)
+        pause_machine();
 }
 
 /* Runs a script, and returns whether the kernel's counts are right where nothing is left of it. */
