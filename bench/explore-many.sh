@@ -17,12 +17,13 @@ fi
 script=$(realpath "$1") seed=$2 runs=$3 shards=$4
 shift 4
 cd "$(dirname "${BASH_SOURCE[0]}")/.."
-HUGEPOOL=proved ./hugepool --help > /dev/null
+export HUGEPOOL=${HUGEPOOL:-proved}
+./hugepool --help > /dev/null
 # the first runs of each shard, and behind the last the end of all
 for ((shard = 0; shard < shards; shard++)); do
     first=$((runs * shard / shards))
     last=$((runs * (shard + 1) / shards))
     ((first == last)) || echo "$((seed + first)) $((last - first))"
 done |
-    parallel --keep-order --colsep ' ' HUGEPOOL=proved ./hugepool explore --seed {1} --runs {2} "$@" '<' "$script" |
+    parallel --keep-order --colsep ' ' ./hugepool explore --seed {1} --runs {2} "$@" '<' "$script" |
     awk '{ $2 = NR - 1; print }'

@@ -18,12 +18,13 @@ if ! command -v cargo > /dev/null; then
     echo "bench: 'cargo', which builds the plain programs, is not on the PATH" >&2
     exit 127
 fi
-HUGEPOOL=proved ./hugepool --help > /dev/null
+# (the proved program if it is current, else the one that is compiled without proof)
+program=$(HUGEPOOL=path ./hugepool)
 cargo build --quiet --release --manifest-path bench/plain/Cargo.toml
 room=$(mktemp -d -t fuzz-XXXXXX)
 plain=bench/plain/target/release
 status=0
-"$plain/fuzz" "$1" "${2-$(date +%s)}" "$room" crates/hugepool/out/hugepool replay -- "$plain/simulate" || status=$?
+"$plain/fuzz" "$1" "${2-$(date +%s)}" "$room" "$program" replay -- "$plain/simulate" || status=$?
 # (at a difference the folder stays, for the trace that it holds)
 ((status == 1)) || rm -r "$room"
 exit "$status"

@@ -17,10 +17,10 @@ from typing import Iterator
 
 TOP = Path(__file__).resolve().parent.parent
 HEADER = TOP / "library" / "include" / "hugepool.h"
-CRATES = [TOP / "crates" / it for it in ("hp_words", "hp_handle", "hp_c")]
+CRATES = [TOP / "crates" / it for it in ("hp_phases", "hp_words", "hp_handle", "hp_c")]
 # a definition, what it begins with in the header, and the number in its lines
 NUMBERED = [
-    ("phase_number phase", "PHASE_", r"= (\d+)"),
+    ("place_of phase", "PHASE_", r"= (\d+)"),
     ("refusal_number refusal", "REFUSAL_", r"= (\d+)"),
     ("life_number life", "LIFE_", r"= (\d+)"),
     ("answer_words answer", "ANSWER_", r"answered (\d+)"),
@@ -84,6 +84,8 @@ def constants() -> dict[str, int]:
         for name, line in re.findall(rf"^{word} \(?{of}(\w+)(.*)", specs, re.MULTILINE):
             if told := re.search(number, line):
                 found[prefix + snake(name).upper()] = int(told[1])
+    [first] = re.findall(r"^phase_number p = place_of p \+ (\d+)", specs, re.MULTILINE)
+    found = {name: number + int(first) * name.startswith("PHASE_") for name, number in found.items()}
     for name, line in ODD.items():
         [told] = re.findall(line, specs, re.MULTILINE)
         found[name] = int(told)

@@ -9,7 +9,8 @@ use Rattle.hp_core.specs.Waiting.{WaitsFor}
 use Rattle.hp_core.specs.declared.acquiring.Acquired.{Acquired}
 use Rattle.hp_core.specs.declared.acquiring.Acquired.TheVariants.{Nothing, Lock, Slot}
 use Rattle.hp_machine.specs.declared.phase.Phase.{Phase}
-use Rattle.hp_words.specs.Words.{life_number, phase_number}
+use Rattle.hp_phases.specs.Phases.{phase_number}
+use Rattle.hp_words.specs.Words.{life_number}
 use Rattle.hp_c.specs.declared.readers.PoolWords.{PoolWords}
 use Rattle.hp_c.specs.declared.readers.FileWords.{FileWords}
 use Rattle.hp_c.specs.declared.readers.TaskWords.{TaskWords}

@@ -12,7 +12,8 @@ use hp_base::{File, Frame, Task, Vpn};
 use hp_core::{Acquired, Core};
 use hp_handle::Handle;
 use hp_machine::Phase;
-use hp_words::outcome_words::{life_number, phase_number};
+use hp_phases::phase_number;
+use hp_words::outcome_words::life_number;
 use std::alloc::Global;
 
 /// The numbers of a pool. `quota` counts only where `has_quota` is true.

@@ -17,11 +17,12 @@ use Rattle.hp_core.specs.State.{CoreState}
 use Rattle.hp_machine.specs.declared.outcome.Outcome.{Outcome}
 use Rattle.hp_machine.specs.declared.outcome.Outcome.TheVariants as outcome
 use Rattle.hp_text.specs.Columns.{column_of, column_of_task}
-use Rattle.hp_draw.specs.Following.{phase_in, standing_after, stay_in, stay_left}
+use Rattle.hp_watch.specs.Happenings.{Happening, Happens, phase_in}
+use Rattle.hp_draw.specs.Following.{standing_after, stay_in, stay_left}
 use Rattle.hp_draw.specs.Following.{failed_with, failure_of, has_moved, next_of, mark_of, mark_with, sign_of}
 use Rattle.hp_draw.specs.Lists.{listed}
 use Rattle.hp_draw.specs.Places.{InColumns}
-use Rattle.hp_draw.specs.Sketches.{Happening, Happens, Drawn, IsDrawn, nothing_drawn, after, after_all, stays_in, waiting_then}
+use Rattle.hp_draw.specs.Sketches.{Drawn, IsDrawn, nothing_drawn, after, after_all, stays_in, waiting_then}
 use Rattle.hp_draw.specs.Waits.{is_for, wait_left, waiting_tasks, waits_left}
 use Rattle.hp_draw.specs.declared.following.Sign.{Sign}
 use Rattle.hp_draw.specs.declared.following.Standing.{Standing}

@@ -17,8 +17,10 @@ use Rattle.hp_core.specs.State.{CoreState}
 use Rattle.hp_core.specs.Waiting.{WaitsFor}
 use Rattle.hp_core.specs.declared.acquiring.Acquired.{Acquired}
 use Rattle.hp_draw.specs.Lists.{listed}
-use Rattle.hp_draw.specs.Sketches.{AreWaits, Drawn, Happening, Happens, after, after_all, ended, nothing_drawn, waiting_then}
-use Rattle.hp_draw.specs.Waits.{AreHolders, AreHoldersOf, GoesOn, IsShown, is_for, wait_left, waiting_after, waiting_tasks, waits_left}
+use Rattle.hp_watch.specs.Happenings.{Happening, Happens}
+use Rattle.hp_watch.specs.Holders.{AreHolders, AreHoldersOf}
+use Rattle.hp_draw.specs.Sketches.{AreWaits, Drawn, after, after_all, ended, nothing_drawn, waiting_then}
+use Rattle.hp_draw.specs.Waits.{GoesOn, IsShown, is_for, wait_left, waiting_after, waiting_tasks, waits_left}
 use Rattle.hp_draw.specs.declared.waits.Wait.{Wait}
 use Rattle.hp_draw.specs.declared.waits.Waiting.{Waiting}
 use Rattle.hp_draw.proofs.Columns.{listed_all, row_keeps, waiting_count}

@@ -2,32 +2,25 @@
 use Rattle.std.proofs.Common.{◌≡◌, ℕ, suc, ◌+◌, ◌<◌, ◌≤◌, List, [], ◌∷◌, ◌++◌, length, take, get_or, Option, refl, sym}
 use Rattle.std.proofs.Common.{ap, subst, ◌∙◌, append_assoc, arith, length-append, add-one}
 use Rattle.std.specs.Prelude.{None}
-use Rattle.std.proofs.lemmas.List.{append-nil, take_all, take_more}
+use Rattle.std.proofs.lemmas.List.{append-nil, take_all}
 use Rattle.hp_base.specs.Text.{Sizes, sizes}
 use Rattle.hp_base.specs.declared.config.Config.{Config}
 use Rattle.hp_base.specs.declared.event.Event.{Event}
 use Rattle.hp_core.specs.Runs.{Row, IsOpening}
 use Rattle.hp_draw.specs.Lists.{listed}
-use Rattle.hp_draw.specs.Waits.{AreHolders}
 use Rattle.hp_core.specs.State.{CoreState}
 use Rattle.hp_machine.specs.declared.outcome.Outcome.{Outcome}
+use Rattle.hp_machine.specs.declared.phase.Phase.{Phase}
 use Rattle.hp_draw.specs.Following.{stay_in}
-use Rattle.hp_draw.specs.Sketches.{AreWaits, Happening, events_of, Happened, Happens, Drawn, IsDrawn, nothing_drawn, after, after_all}
+use Rattle.hp_watch.specs.Happenings.{Happening, Happens, events_of, stood_at}
+use Rattle.hp_watch.specs.Holders.{AreHolders}
+use Rattle.hp_watch.proofs.Happenings.{events_more, happens_more, up_to}
+use Rattle.hp_draw.specs.Sketches.{AreWaits, Drawn, IsDrawn, nothing_drawn, after, after_all}
 use Rattle.hp_draw.specs.Sketches.{stays_in, ended}
 use Rattle.hp_draw.proofs.Columns.{opened}
 use Rattle.hp_draw.proofs.Exact.{exact_waits}
 use Rattle.hp_draw.specs.declared.following.Standing.{Standing}
 use Rattle.hp_draw.specs.declared.following.Stay.{Stay}
-
--- one event more happens
-happens_more : (old mid new : CoreState) (list : List Happening) (h : Happening) → Happens old list mid
-    → Happened mid h → h.core ≡ new → Happens old (list ++ (h ∷ [])) new
-happens_more old mid new [] h is row to = (subst (λ (s : CoreState). Happened s h) is row, sym to)
-happens_more old mid new (k ∷ list) h is row to = (is.0, happens_more k.core mid new list h is.1 row to)
-
-events_more : (list : List Happening) (h : Happening) → events_of (list ++ (h ∷ [])) ≡ events_of list ++ (h.event ∷ [])
-events_more [] h = refl
-events_more (k ∷ list) h = ap (λ (x : List Event). k.event ∷ x) (events_more list h)
 
 -- what is drawn of it is added to what was drawn before
 drawn_more : (at n : ℕ) (d : Drawn) (list : List Happening) (h : Happening) → n ≡ at + length list
@@ -53,28 +46,24 @@ pub nothing_yet : (tasks : ℕ) (events : List Event) (old : CoreState) (d : Dra
 unfolding after_all
 nothing_yet tasks events old d is = record { happenings = []; are_events = refl; count = refl; happens = refl; is = is }
 
--- the events up to this one are those before it, and it
-up_to : (events : List Event) (n : ℕ) (e : Event) → n < length events → e ≡ get_or events n e
-    → take (n + 1) events ≡ take n events ++ (e ∷ [])
-up_to events n e lt is = take_more events n e lt ∙ ap (λ (x : Event). take n events ++ (x ∷ [])) (sym is)
-
 pub one_event : (tasks : ℕ) (events slice : List Event) (n at : ℕ) (e : Event) (outcome : Outcome) (old mid new : CoreState)
-    (holders : List (Option ℕ)) (d dd : Drawn)
+    (holders : List (Option ℕ)) (from : Option Phase) (d dd : Drawn)
     → slice ≡ events → n < length slice → e ≡ get_or slice n e → at ≡ n → DrawnSoFar tasks events n old mid d → Row mid e outcome new
-    → AreHolders new holders → dd ≡ after at d (record { event = e; outcome = outcome; core = new; holders = holders })
+    → AreHolders new holders → from ≡ stood_at mid e
+    → dd ≡ after at d (record { event = e; outcome = outcome; core = new; holders = holders; from = from })
     → DrawnSoFar tasks events (n + 1) old new dd
-one_event tasks events slice n at e outcome old mid new holders d dd same lt is number s row are drawn =
+one_event tasks events slice n at e outcome old mid new holders from d dd same lt is number s row are stood drawn =
     record {
       happenings = s.happenings ++ (h ∷ []);
       are_events =
           events_more s.happenings h ∙ ap (λ (x : List Event). x ++ (e ∷ [])) s.are_events ∙ sym (up_to events n e there here);
       count = counted;
-      happens = happens_more old mid new s.happenings h s.happens (row, are) refl;
+      happens = happens_more old mid new s.happenings h s.happens (row, are, stood) refl;
       is = drawn ∙ ap (λ (x : Drawn). after at x h) s.is ∙ sym (drawn_more 0 at (nothing_drawn tasks) s.happenings h place);
     }
   where
     h : Happening
-    h = record { event = e; outcome = outcome; core = new; holders = holders }
+    h = record { event = e; outcome = outcome; core = new; holders = holders; from = from }
 
     there : n < length events
     there = subst (λ (x : List Event). n < length x) same lt

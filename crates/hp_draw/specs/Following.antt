@@ -7,7 +7,7 @@ use Rattle.hp_base.specs.declared.answer.Answer.TheVariants as answer
 use Rattle.hp_machine.specs.declared.outcome.Outcome.{Outcome}
 use Rattle.hp_machine.specs.declared.outcome.Outcome.TheVariants as outcome
 use Rattle.hp_machine.specs.declared.phase.Phase.{Phase}
-use Rattle.hp_core.specs.Readers.{free_of, resv_of, owed_of, phase_of, all_reserved_of, all_pages_of, quota_of, used_of}
+use Rattle.hp_core.specs.Readers.{free_of, resv_of, owed_of, all_reserved_of, all_pages_of, quota_of, used_of}
 use Rattle.hp_core.specs.State.{CoreState}
 use Rattle.hp_draw.specs.declared.following.Standing.{Standing}
 use Rattle.hp_draw.specs.declared.following.Stay.{Stay}
@@ -17,10 +17,6 @@ use Rattle.hp_draw.specs.declared.following.Next.{Next}
 use Rattle.hp_draw.specs.declared.following.Next.TheVariants as next
 use Rattle.hp_draw.specs.declared.following.Sign.{Sign}
 use Rattle.hp_draw.specs.declared.following.Sign.TheVariants as sign
-
--- the phase in which the call of the task in that column stands
-abbrev pub phase_in : CoreState → (column : ℕ) → Option Phase
-phase_in core column = if column == 0 then None else phase_of core column
 
 -- where a call stands that begins
 abbrev pub begun : (at : ℕ) → Event → Option Phase → Option Standing

@@ -7,7 +7,7 @@ use Rattle.hp_base.specs.declared.event.Op.{Op}
 use Rattle.hp_base.specs.declared.event.Op.TheVariants.{Map, MapNoReserve, Unmap, Load, Store, Alloc, Punch, Truncate, Exit}
 use Rattle.hp_machine.specs.Text.{phase_word}
 use Rattle.hp_machine.specs.declared.phase.Phase.{Phase}
-use Rattle.hp_words.specs.Linux.{linux_word}
+use Rattle.hp_watch.specs.Linux.{linux_of_op}
 use Rattle.hp_draw.specs.Layouts.{x_of, width_of, top_of}
 use Rattle.hp_draw.specs.Shapes.{box_text, words_text, upright_text}
 use Rattle.hp_draw.specs.declared.following.Next.{Next}
@@ -69,14 +69,14 @@ stood_text column s =
     ++ (codes ": " ++ (op_text s.op
     ++ (codes " of task " ++ (decimal column ++ (codes " at " ++ phase_word s.phase))))))
 
--- what does in Linux what the next step does
-abbrev pub linux_text : Phase → List ℕ
-linux_text phase = codes " (Linux: " ++ (linux_word phase ++ codes ")")
+-- what does in Linux what the next step of such a call does
+abbrev pub linux_text : Op → Phase → List ℕ
+linux_text op phase = codes " (Linux: " ++ (linux_of_op op phase ++ codes ")")
 
 -- what is told of a stay where the pointer rests on it
 unfoldable pub told_text : Stay → List ℕ
 told_text s =
-    stood_text s.column s.standing ++ (linux_text s.standing.phase ++ (ended_words s.next s.until ++ codes "</title>"))
+    stood_text s.column s.standing ++ (linux_text s.standing.op s.standing.phase ++ (ended_words s.next s.until ++ codes "</title>"))
 
 -- the phase's name: along the box, upright in it, or not at all, as there is room
 unfoldable pub phase_text : Place → (phase : List ℕ) → List ℕ

@@ -1,18 +1,18 @@
 -- What is to be drawn of a run.
 use Rattle.std.specs.Prelude.{◌≡◌, ℕ, zero, suc, ◌+◌, ◌≤◌, All, slice_get, List, []}
-use Rattle.std.specs.Prelude.{◌∷◌, ◌++◌, length, map, Option, Some, None, get_or, replicate, slice_set}
+use Rattle.std.specs.Prelude.{◌∷◌, ◌++◌, length, Option, Some, None, get_or, replicate, slice_set}
 use Rattle.hp_base.specs.Text.{Sizes, sizes}
 use Rattle.hp_base.specs.declared.config.Config.{Config}
 use Rattle.hp_base.specs.declared.event.Event.{Event}
 use Rattle.hp_core.specs.Readers.{config_of}
-use Rattle.hp_core.specs.Runs.{Row, IsOpening}
+use Rattle.hp_core.specs.Runs.{IsOpening}
 use Rattle.hp_core.specs.State.{CoreState}
 use Rattle.hp_core.specs.Waiting.{WaitsFor}
-use Rattle.hp_machine.specs.declared.outcome.Outcome.{Outcome}
 use Rattle.hp_text.specs.Columns.{column_of}
-use Rattle.hp_draw.specs.Following.{phase_in, standing_after, stay_left, stay_in, mark_of, failure_of, numbers_of}
+use Rattle.hp_watch.specs.Happenings.{Happening, Happens, events_of, phase_in}
+use Rattle.hp_draw.specs.Following.{standing_after, stay_left, stay_in, mark_of, failure_of, numbers_of}
 use Rattle.hp_draw.specs.Lists.{listed}
-use Rattle.hp_draw.specs.Waits.{AreHolders, GoesOn, IsShown, waiting_tasks, waits_left}
+use Rattle.hp_draw.specs.Waits.{GoesOn, IsShown, waiting_tasks, waits_left}
 use Rattle.hp_draw.specs.declared.following.Standing.{Standing}
 use Rattle.hp_draw.specs.declared.following.Stay.{Stay}
 use Rattle.hp_draw.specs.declared.following.Mark.{Mark}
@@ -20,25 +20,6 @@ use Rattle.hp_draw.specs.declared.following.Numbers.{Numbers}
 use Rattle.hp_draw.specs.declared.sketch.Sketch.{Sketch}
 use Rattle.hp_draw.specs.declared.waits.Wait.{Wait}
 use Rattle.hp_draw.specs.declared.waits.Waiting.{Waiting}
-
--- an event, what came of it, the core that it led to, and by whom each task's next step would be blocked there
-pub record Happening : Type 0 where
-  pub event : Event
-  pub outcome : Outcome
-  pub core : CoreState
-  pub holders : List (Option ℕ)
-
-abbrev pub events_of : List Happening → List Event
-events_of list = map (λ h. h.event) list
-
--- it is a row of the machine, and whom each task waits for behind it is known
-abbrev pub Happened : CoreState → Happening → Type 0
-Happened old h = Row old h.event h.outcome h.core × AreHolders h.core h.holders
-
--- one after the other they happened, and lead from old to new
-abbrev pub Happens : CoreState → List Happening → CoreState → Type 0
-Happens old [] new = new ≡ old
-Happens old (h ∷ more) new = Happened old h × Happens h.core more new
 
 -- where the call of each column stands, the stays that ended, the marks, the counts behind each event, for whom each task waits, and
 -- the waits that ended

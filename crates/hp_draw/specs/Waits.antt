@@ -1,22 +1,12 @@
 -- Whom tasks wait for, from event to event.
-use Rattle.std.specs.Prelude.{◌≡◌, ℕ, zero, suc, ◌-◌, ◌<◌, ◌≤◌, ◌==◌, ◌⊎◌, Bool, false, List, [], ◌∷◌, ◌++◌, length, Option, None, Some}
+use Rattle.std.specs.Prelude.{◌≡◌, ℕ, zero, suc, ◌<◌, ◌≤◌, ◌==◌, ◌⊎◌, Bool, false, List, [], ◌∷◌, ◌++◌, Option, None, Some}
 use Rattle.std.specs.Prelude.{get_or, if◌then◌else◌}
 use Rattle.hp_core.specs.Acquiring.{acquired_of}
-use Rattle.hp_core.specs.Readers.{config_of}
 use Rattle.hp_core.specs.State.{CoreState}
-use Rattle.hp_core.specs.Waiting.{WaitsFor}
 use Rattle.hp_core.specs.declared.acquiring.Acquired.{Acquired}
 use Rattle.hp_draw.specs.Lists.{listed}
 use Rattle.hp_draw.specs.declared.waits.Wait.{Wait}
 use Rattle.hp_draw.specs.declared.waits.Waiting.{Waiting}
-
--- for each task of these holders, from task 1 on, the one by whom its next step would be blocked, if it would be by anybody
-unfoldable pub AreHoldersOf : CoreState → List (Option ℕ) → Type 0
-AreHoldersOf core holders = (t : ℕ) (d : Option ℕ) → 1 ≤ t → t ≤ length holders → WaitsFor core t (get_or holders (t - 1) d)
-
--- of all tasks
-abbrev pub AreHolders : CoreState → List (Option ℕ) → Type 0
-AreHolders core holders = (length holders ≡ (config_of core).tasks) × AreHoldersOf core holders
 
 -- whether a task waits for that holder
 abbrev pub is_for : Option Waiting → (holder : ℕ) → Bool

@@ -1,8 +1,8 @@
 //! What an event changes of what is drawn.
-ghost use Rattle.std.specs.Prelude.{◌≡◌, ◌≤◌, ◌++◌, Bool, OnOk};
-ghost use Rattle.hp_core.specs.Readers.{config_of, quota_of};
+ghost use Rattle.std.specs.Prelude.{◌≡◌, ◌++◌, Bool, OnOk};
+ghost use Rattle.hp_core.specs.Readers.{quota_of};
 ghost use Rattle.hp_draw.specs.Following.{begun, counted_use, failure_of, has_moved, is_failure, mark_of, moved, next_of, numbers_of};
-ghost use Rattle.hp_draw.specs.Following.{phase_in, sign_of, standing_after, stay_in, stay_left, stay_of};
+ghost use Rattle.hp_draw.specs.Following.{sign_of, standing_after, stay_in, stay_left, stay_of};
 ghost use Rattle.hp_draw.specs.Lists.{listed};
 
 use hp_base::{Answer, Event, File, Index, Op, Task, Vpn};
@@ -76,17 +76,6 @@ pub(crate) struct Numbers {
     pub(crate) owed: i64,
     /// The used count, and 0 where the pool has no quota.
     pub(crate) used: u32,
-}
-
-/// The phase in which the call of the task in that column stands.
-pub(crate) fn phase_in(core: &Core, column: u32) -> Option<Phase>
-    requires { column ≤ (config_of core.now).tasks }
-    ensures { result ≡ phase_in core.now column }
-{
-    if column == 0 {
-        return None;
-    }
-    core.phase(Task::new(column))
 }
 
 /// Where a call stands that begins.

@@ -10,7 +10,7 @@ use crate::layout::{LEFT, Layout};
 use crate::shapes::{Place, push_box, push_upright, push_words};
 use hp_base::Op;
 use hp_core::Phase;
-use hp_words::linux_name;
+use hp_watch::linux_of_op;
 use std::alloc::AllocError;
 
 /// How wide a letter is.
@@ -160,11 +160,11 @@ fn push_stood(column: usize, standing: &Standing, text: &mut String) -> Result<(
     )
 }
 
-/// Appends what does in Linux what the next step does.
-fn push_linux(phase: Phase, text: &mut String) -> Result<(), AllocError>
-    ensures { OnOk result (string_bytes text.new ≡ string_bytes text.old ++ linux_text phase) }
+/// Appends what does in Linux what the next step of such a call does.
+fn push_linux(op: &Op, phase: Phase, text: &mut String) -> Result<(), AllocError>
+    ensures { OnOk result (string_bytes text.new ≡ string_bytes text.old ++ linux_text op.now phase) }
 {
-    let name = linux_name(phase);
+    let name = linux_of_op(op, phase);
     write!(text, " (Linux: {name})")
 }
 
@@ -174,7 +174,7 @@ fn push_told(stay: &Stay, text: &mut String) -> Result<(), AllocError>
     ensures { OnOk result (string_bytes text.new ≡ string_bytes text.old ++ told_text stay.now) }
 {
     push_stood(stay.column, &stay.standing, text)?;
-    push_linux(stay.standing.phase, text)?;
+    push_linux(&stay.standing.op, stay.standing.phase, text)?;
     push_ended(stay.next, stay.until, text)?;
     text.push_str("</title>")
 }

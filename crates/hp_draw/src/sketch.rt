@@ -1,20 +1,19 @@
 //! What is to be drawn of a run, before it is known where it is to stand.
 ghost use Rattle.std.specs.Prelude.{◌≡◌, ◌≤◌, ◌+◌, ◌++◌, None, OnOk, IfOk, length, get_or, replicate, slice_set};
 ghost use Rattle.hp_base.specs.Text.{sizes};
-ghost use Rattle.hp_core.specs.Readers.{config_of};
 ghost use Rattle.hp_draw.specs.Following.{stay_in};
 ghost use Rattle.hp_draw.specs.Lists.{listed};
 ghost use Rattle.hp_draw.specs.Sketches.{IsDrawn, after, ended, nothing_drawn, seen, stays_in};
-ghost use Rattle.hp_draw.specs.Waits.{AreHolders};
 
 use crate::following::{
-    Mark, Numbers, Standing, Stay, add_mark, add_stay, failure_of, mark_of, numbers_of, phase_in,
+    Mark, Numbers, Standing, Stay, add_mark, add_stay, failure_of, mark_of, numbers_of,
     standing_after, stay_in, stay_left,
 };
 use crate::waits::Waits;
 use hp_base::{Answer, Event, File, Index, Op, Task, Vpn};
-use hp_core::{Core, Outcome, Phase};
+use hp_core::{Outcome, Phase};
 use hp_text::{MOST_EVENTS, Trace, column_of};
+use hp_watch::{Run, phase_in};
 use std::alloc::{AllocError, Global};
 
 /// What is to be drawn of a run. Moments are counted from 0: each is an event's.
@@ -79,23 +78,24 @@ fn set_standing(standings: &mut [Option<Standing>], column: usize, standing: Opt
     }
 }
 
-/// Adds what came of an event. `core` is the one that it led to.
+/// Adds what came of an event, which led to where the run stands.
 #[tactic(auto, unfolding(crate::specs::Sketches::after))]
 fn add_event(
     sketch: &mut Sketch,
     at: u32,
     event: &Event,
     outcome: &Outcome,
-    core: &Core,
+    run: &Run,
 ) -> Result<(), AllocError>
-    ensures drawn { OnOk result (seen sketch.new ≡ after at (seen sketch.old) (record {
+    ensures { OnOk result (seen sketch.new ≡ after at (seen sketch.old) (record {
       event = event.now;
       outcome = outcome.now;
-      core = core.now;
-      holders = sketch.new.waits.holders.items;
+      core = run.now.core;
+      holders = run.now.holders.items;
+      from = run.now.from;
     })) }
-    ensures holders { OnOk result (AreHolders core.now sketch.new.waits.holders.items) }
 {
+    let core = &run.core;
     let config = core.config();
     let number = column_of(config.tasks, event);
     let column = number as usize;
@@ -109,7 +109,7 @@ fn add_event(
     add_mark(&mut sketch.marks, mark_of(column, at, event, outcome))?;
     add_mark(&mut sketch.marks, failure_of(column, at, outcome))?;
     sketch.numbers.push(numbers_of(core, at))?;
-    sketch.waits.follow(core, at)
+    sketch.waits.follow(core, at, run.holders.as_slice())
 }
 
 /// Adds the stay of the call of a column, if it is in flight at the end.
@@ -152,13 +152,13 @@ pub(crate) fn sketch_run(alloc: Global, trace: &Trace) -> Result<Sketch, AllocEr
     ensures { IfOk result (λ sketch. IsDrawn (sizes trace.now.config) trace.now.events.items (seen sketch)) }
 {
     let mut sketch = empty_sketch(alloc, trace.config.tasks)?;
-    let mut core = Core::new(alloc, trace.config)?;
+    let mut run = Run::new(alloc, trace.config)?;
     let mut at = 0;
     for event in &trace.events {
         // The checker of borrows asks for a mention of the types that an outcome may hold.
         let _no_answer: Option<Answer> = None;
-        let outcome: Outcome = core.step(*event)?;
-        add_event(&mut sketch, at, event, &outcome, &core)?;
+        let outcome: Outcome = run.happen(*event)?;
+        add_event(&mut sketch, at, event, &outcome, &run)?;
         at += 1;
     }
     end_sketch(&mut sketch, at)?;

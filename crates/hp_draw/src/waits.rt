@@ -1,9 +1,9 @@
-//! Whom tasks wait for, from event to event: also those that make no step, and so are never told that they are blocked.
+//! For whom each task waits since when, from event to event.
 ghost use Rattle.std.specs.Prelude.{◌≡◌, ◌≤◌, ◌++◌, ◌+◌, ◌-◌, ◌<◌, [], OnOk, None, get_or, length};
 ghost use Rattle.hp_core.specs.Acquiring.{acquired_of};
 ghost use Rattle.hp_core.specs.Readers.{config_of};
 ghost use Rattle.hp_draw.specs.Lists.{listed};
-ghost use Rattle.hp_draw.specs.Waits.{AreHolders, is_for, wait_left, wait_of, waiting_after, waiting_tasks, waits_left};
+ghost use Rattle.hp_draw.specs.Waits.{is_for, wait_left, wait_of, waiting_after, waiting_tasks, waits_left};
 
 use hp_base::{File, Index, Task};
 use hp_core::{Acquired, Core};
@@ -32,26 +32,12 @@ pub(crate) struct Wait {
 /// The waits of a run, up to a moment.
 #[derive(Drop)]
 pub(crate) struct Waits {
-    /// By whom the next step of each task would be blocked, from task 1 on.
-    pub(crate) holders: Vec<Option<Task>>,
     /// For whom each task waited before.
     earlier: Vec<Option<Waiting>>,
     /// For whom each task waits.
     pub(crate) now: Vec<Option<Waiting>>,
     /// The waits that ended, in the order in which they did.
     pub(crate) ended: Vec<Wait>,
-}
-
-/// Lists by whom each task's next step would be blocked.
-fn list_holders(core: &Core, holders: &mut Vec<Option<Task>>) -> Result<(), AllocError>
-    ensures { OnOk result (AreHolders core.now holders.new.items) }
-{
-    holders.clear();
-    let config = core.config();
-    for number in 0..config.tasks {
-        holders.push(core.waits_for(Task::new(number + 1)))?;
-    }
-    Ok(())
 }
 
 /// Whether a task waits for that holder.
@@ -230,30 +216,26 @@ impl Waits {
         ensures ended { result.ended.items ≡ [] }
     {
         Waits {
-            holders: Vec::new(alloc),
             earlier: Vec::new(alloc),
             now: Vec::new(alloc),
             ended: Vec::new(alloc),
         }
     }
 
-    /// Notes for whom each task waits, once the event of that moment has led to the core.
-    pub(crate) fn follow(&mut self, core: &Core, at: u32) -> Result<(), AllocError>
-        ensures holders { OnOk result (AreHolders core.now self.new.holders.items) }
+    /// Notes for whom each task waits, once the event of that moment has led to the core. These would block their next steps.
+    pub(crate) fn follow(
+        &mut self,
+        core: &Core,
+        at: u32,
+        holders: &[Option<Task>],
+    ) -> Result<(), AllocError>
         ensures now { OnOk result (self.new.now.items
-            ≡ waiting_tasks core.now at self.new.holders.items self.old.now.items (config_of core.now).tasks) }
+            ≡ waiting_tasks core.now at holders.now self.old.now.items (config_of core.now).tasks) }
         ensures ended { OnOk result (self.new.ended.items
             ≡ self.old.ended.items ++ waits_left at self.old.now.items self.new.now.items (length self.old.now.items)) }
     {
-        list_holders(core, &mut self.holders)?;
         mem::swap(&mut self.earlier, &mut self.now);
-        list_waiting(
-            core,
-            at,
-            self.holders.as_slice(),
-            self.earlier.as_slice(),
-            &mut self.now,
-        )?;
+        list_waiting(core, at, holders, self.earlier.as_slice(), &mut self.now)?;
         add_waits_left(
             at,
             self.earlier.as_slice(),

@@ -6,24 +6,21 @@ use Rattle.std.proofs.Common.{inl, inr}
 use Rattle.std.specs.Prelude.{OnOk, IfErr, Result, Ok, Err, ◌⊎◌}
 use Rattle.std.specs.Io.KnownBytes.{Appends, Keeps}
 use Rattle.std.proofs.KnownBytes.{Appends-nil, Appends-trans, Appends-kept}
-use Rattle.std.proofs.lemmas.List.{append-nil, take-append-drop, take_all, take_more}
+use Rattle.std.proofs.lemmas.List.{append-nil, take-append-drop, take_all}
 use Rattle.hp_base.specs.declared.event.Event.{Event}
 use Rattle.hp_core.specs.Runs.{Row}
 use Rattle.hp_core.specs.State.{CoreState}
 use Rattle.hp_machine.specs.declared.outcome.Outcome.{Outcome}
+use Rattle.hp_machine.specs.declared.phase.Phase.{Phase}
 use Rattle.hp_text.specs.Writing.{Wrote, IsWriteFault}
 use Rattle.hp_text.specs.declared.fault.ReplayFault.{ReplayFault}
 use Rattle.hp_text.specs.declared.fault.ReplayFault.TheVariants.{Write}
 use Rattle.hp_text.proofs.Writes.{Wrote-behind}
-use Rattle.hp_explain.specs.Happenings.{Happening, Happened, Happens, Telling, events_of, texts_of}
+use Rattle.hp_watch.specs.Happenings.{Happening, Happens, events_of, stood_at}
+use Rattle.hp_watch.specs.Holders.{AreHolders}
+use Rattle.hp_watch.proofs.Happenings.{events_more, happens_more, up_to}
+use Rattle.hp_explain.specs.Happenings.{Telling, texts_of}
 use Rattle.hp_explain.specs.Happenings.{EventTold, EventPartlyTold, EventsTold, EventsPartlyTold}
-use Rattle.hp_explain.specs.Waits.{AreHolders}
-
--- one event more happens
-happens_more : (old mid new : CoreState) (list : List Happening) (h : Happening) → Happens old list mid
-    → Happened mid h → h.core ≡ new → Happens old (list ++ (h ∷ [])) new
-happens_more old mid new [] h is happened to = (subst (λ (s : CoreState). Happened s h) is happened, sym to)
-happens_more old mid new (k ∷ list) h is happened to = (is.0, happens_more k.core mid new list h is.1 happened to)
 
 -- whom tasks wait for behind these, who waited for those
 abbrev pub waits_after : (waited : List (Option ℕ)) → List Happening → List (Option ℕ)
@@ -33,10 +30,6 @@ waits_after waited (h ∷ more) = waits_after h.holders more
 waits_more : (waited : List (Option ℕ)) (list : List Happening) (h : Happening) → waits_after waited (list ++ (h ∷ [])) ≡ h.holders
 waits_more waited [] h = refl
 waits_more waited (k ∷ list) h = waits_more k.holders list h
-
-events_more : (list : List Happening) (h : Happening) → events_of (list ++ (h ∷ [])) ≡ events_of list ++ (h.event ∷ [])
-events_more [] h = refl
-events_more (k ∷ list) h = ap (λ (x : List Event). k.event ∷ x) (events_more list h)
 
 length_of : (list : List Happening) → length (events_of list) ≡ length list
 length_of [] = refl
@@ -74,11 +67,6 @@ pub none_told : (tell : Telling) (events : List Event) (old : CoreState) (waited
 unfolding texts_of
 none_told tell events old waited o =
     record { happenings = []; are_events = refl; count = refl; happens = refl; last = refl; wrote = Appends-nil o }
-
--- the events up to this one are those before it, and it
-up_to : (events : List Event) (n : ℕ) (e : Event) → n < length events → e ≡ get_or events n e
-    → take (n + 1) events ≡ take n events ++ (e ∷ [])
-up_to events n e lt is = take_more events n e lt ∙ ap (λ (x : Event). take n events ++ (x ∷ [])) (sym is)
 
 -- and its text behind those that are written
 text_behind : (tell : Telling) (events : List Event) (n line : ℕ) (old now : CoreState) (waited waits : List (Option ℕ))
@@ -173,35 +161,35 @@ stopped_in tell events n line e old mid waited waits before now after lt is numb
 
 -- an event that happened, and whose text was written
 pub event_told : {A : Type 0} (r : Result A ReplayFault) (tell : Telling) (line : ℕ) (e : Event) (outcome : Outcome)
-    (old new : CoreState) (waited waits : List (Option ℕ)) (before after : Option (List ℕ)) (text told : List ℕ) → Row old e outcome new
-    → AreHolders new waits → text ≡ told
-    → told ≡ tell line waited (record { event = e; outcome = outcome; core = new; holders = waits })
+    (old new : CoreState) (waited waits : List (Option ℕ)) (from : Option Phase) (before after : Option (List ℕ)) (text told : List ℕ)
+    → Row old e outcome new → AreHolders new waits → from ≡ stood_at old e → text ≡ told
+    → told ≡ tell line waited (record { event = e; outcome = outcome; core = new; holders = waits; from = from })
     → OnOk r (Appends before after text) → OnOk r (EventTold tell line e old new waited waits before after)
-event_told (Ok x) tell line e outcome old new waited waits before after text told happens holders same is wrote =
+event_told (Ok x) tell line e outcome old new waited waits from before after text told happens holders stood same is wrote =
     record {
-      happening = record { event = e; outcome = outcome; core = new; holders = waits };
+      happening = record { event = e; outcome = outcome; core = new; holders = waits; from = from };
       is_event = refl;
       is_core = refl;
       are_holders = refl;
-      happened = (happens, holders);
+      happened = (happens, holders, stood);
       wrote = subst (λ (x : List ℕ). Appends before after x) (same ∙ is) wrote;
     }
-event_told (Err fault) tell line e outcome old new waited waits before after text told happens holders same is wrote = tt
+event_told (Err fault) tell line e outcome old new waited waits from before after text told happens holders stood same is wrote = tt
 
 -- or in part
 pub event_stopped : {A : Type 0} (r : Result A ReplayFault) (tell : Telling) (line : ℕ) (e : Event) (outcome : Outcome)
-    (old new : CoreState) (waited waits : List (Option ℕ)) (before after : Option (List ℕ)) (text told : List ℕ) → Row old e outcome new
-    → AreHolders new waits → text ≡ told
-    → told ≡ tell line waited (record { event = e; outcome = outcome; core = new; holders = waits })
+    (old new : CoreState) (waited waits : List (Option ℕ)) (from : Option Phase) (before after : Option (List ℕ)) (text told : List ℕ)
+    → Row old e outcome new → AreHolders new waits → from ≡ stood_at old e → text ≡ told
+    → told ≡ tell line waited (record { event = e; outcome = outcome; core = new; holders = waits; from = from })
     → IfErr r (λ fault. (fault ≡ Write) × Wrote before after text)
     → IfErr r (λ fault. IsWriteFault fault × (Keeps before after ⊎ EventPartlyTold tell line e old waited before after))
-event_stopped (Ok x) tell line e outcome old new waited waits before after text told happens holders same is wrote = tt
-event_stopped (Err fault) tell line e outcome old new waited waits before after text told happens holders same is wrote = (
+event_stopped (Ok x) tell line e outcome old new waited waits from before after text told happens holders stood same is wrote = tt
+event_stopped (Err fault) tell line e outcome old new waited waits from before after text told happens holders stood same is wrote = (
   subst (λ (f : ReplayFault). IsWriteFault f) (sym wrote.0) tt,
   inr (record {
-    happening = record { event = e; outcome = outcome; core = new; holders = waits };
+    happening = record { event = e; outcome = outcome; core = new; holders = waits; from = from };
     is_event = refl;
-    happened = (happens, holders);
+    happened = (happens, holders, stood);
     wrote = subst (λ (x : List ℕ). Wrote before after x) (same ∙ is) wrote.1;
   }),
 )

@@ -13,11 +13,12 @@ use Rattle.hp_text.specs.Collecting.{ReadsTrace}
 use Rattle.hp_text.specs.Writing.{Wrote, IsWriteFault}
 use Rattle.hp_text.specs.declared.fault.ReplayFault.{ReplayFault}
 use Rattle.hp_text.proofs.Writes.{Wrote-behind, Wrote-more}
-use Rattle.hp_explain.specs.Happenings.{EventsTold, EventsPartlyTold, Happens, Happening, events_of}
+use Rattle.hp_watch.specs.Happenings.{Happens, Happening, events_of}
+use Rattle.hp_explain.specs.Happenings.{EventsTold, EventsPartlyTold}
 use Rattle.hp_explain.specs.JsonObjects.{pool_object, shown_object, objects_text, end_object}
 use Rattle.hp_explain.specs.JsonRuns.{ObjectsBegun, Objects, SomeObjects, WroteObjects, WroteSomeObjects, some_objects, all_objects}
 use Rattle.hp_explain.specs.JsonRuns.{NotExplainedJson}
-use Rattle.hp_explain.specs.Waits.{AreHolders}
+use Rattle.hp_watch.specs.Holders.{AreHolders}
 use Rattle.hp_explain.specs.Views.{events_until}
 use Rattle.hp_explain.specs.declared.view.View.{View}
 

@@ -2,6 +2,5 @@ pub mod Laying
 pub mod Widths
 pub mod Happenings
 pub mod Texts
-pub mod Holders
 pub mod JsonLaying
 pub mod JsonTexts

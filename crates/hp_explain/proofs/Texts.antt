@@ -18,7 +18,7 @@ use Rattle.hp_explain.specs.Rows.{head_text, rows_text, shown_text, end_text}
 use Rattle.hp_explain.specs.Explaining.{Explanation, WroteExplanation}
 use Rattle.hp_explain.specs.Explaining.{PartlyExplained, some_rows, to_the_end}
 use Rattle.hp_explain.specs.Explaining.{NotExplained}
-use Rattle.hp_explain.specs.Waits.{AreHolders}
+use Rattle.hp_watch.specs.Holders.{AreHolders}
 use Rattle.hp_explain.specs.Views.{column_count, events_until}
 use Rattle.hp_explain.specs.Widths.{HaveRoom}
 use Rattle.hp_explain.specs.declared.view.View.{View}

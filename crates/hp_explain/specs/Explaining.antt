@@ -9,10 +9,10 @@ use Rattle.hp_core.specs.State.{CoreState}
 use Rattle.hp_text.specs.Collecting.{ReadsTrace, NotRead}
 use Rattle.hp_text.specs.Writing.{Wrote, IsWriteFault}
 use Rattle.hp_text.specs.declared.fault.ReplayFault.{ReplayFault}
-use Rattle.hp_explain.specs.Happenings.{Happening, Happens, events_of}
+use Rattle.hp_watch.specs.Happenings.{Happening, Happens, events_of}
 use Rattle.hp_explain.specs.Rows.{head_text, rows_text, end_text}
 use Rattle.hp_explain.specs.Views.{column_count, events_until}
-use Rattle.hp_explain.specs.Waits.{AreHolders}
+use Rattle.hp_watch.specs.Holders.{AreHolders}
 use Rattle.hp_explain.specs.Widths.{HaveRoom}
 use Rattle.hp_explain.specs.declared.view.View.{View}
 

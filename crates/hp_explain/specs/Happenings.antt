@@ -1,33 +1,12 @@
--- Events that happen one after the other, and the text that tells of each.
-use Rattle.std.specs.Prelude.{◌≡◌, ℕ, suc, List, [], ◌∷◌, ◌++◌, map, Option}
+-- The texts that tell of events, one after the other.
+use Rattle.std.specs.Prelude.{◌≡◌, ℕ, suc, List, [], ◌∷◌, ◌++◌, Option}
 use Rattle.std.specs.Io.KnownBytes.{Appends}
 use Rattle.hp_base.specs.declared.event.Event.{Event}
-use Rattle.hp_core.specs.Runs.{Row}
 use Rattle.hp_core.specs.State.{CoreState}
-use Rattle.hp_machine.specs.declared.outcome.Outcome.{Outcome}
 use Rattle.hp_text.specs.Writing.{Wrote}
-use Rattle.hp_explain.specs.Waits.{AreHolders}
+use Rattle.hp_watch.specs.Happenings.{Happening, Happened, Happens, events_of}
 
 -- A writer held `before`, and now holds `after`.
-
--- an event, what came of it, the core that it led to, and whom each task waits for there
-pub record Happening : Type 0 where
-  pub event : Event
-  pub outcome : Outcome
-  pub core : CoreState
-  pub holders : List (Option ℕ)
-
-abbrev pub events_of : List Happening → List Event
-events_of list = map (λ h. h.event) list
-
--- it is a row of the machine, and whom each task waits for behind it is known
-abbrev pub Happened : CoreState → Happening → Type 0
-Happened old h = Row old h.event h.outcome h.core × AreHolders h.core h.holders
-
--- one after the other they happened, and lead from old to new
-abbrev pub Happens : CoreState → List Happening → CoreState → Type 0
-Happens old [] new = new ≡ old
-Happens old (h ∷ more) new = Happened old h × Happens h.core more new
 
 -- the text that tells of an event: of its line in the trace, of whom each task waited for before it, and of what happened
 abbrev pub Telling : Type 0

@@ -14,7 +14,7 @@ use Rattle.hp_machine.specs.declared.outcome.Outcome.{Outcome}
 use Rattle.hp_machine.specs.declared.outcome.Outcome.TheVariants as outcome
 use Rattle.hp_machine.specs.declared.outcome.Refusal.{Refusal}
 use Rattle.hp_machine.specs.declared.phase.Phase.{Phase}
-use Rattle.hp_words.specs.Linux.{linux_word}
+use Rattle.hp_watch.specs.Linux.{linux_of_step}
 use Rattle.hp_core.specs.Acquiring.{acquired_of}
 use Rattle.hp_core.specs.Holding.{holding_of}
 use Rattle.hp_core.specs.Readers.{config_of}
@@ -75,10 +75,14 @@ event_keys (Step task granted) = task_key task ++ event_key (step_word granted)
 event_keys (Kill task) = task_key task ++ event_key (codes "kill")
 event_keys (Resize frames) = event_key (codes "resize") ++ frames_key frames
 
--- `,"phase":"taken","linux":"region_add"`: where the call stands now, and what does in Linux what its next step does
-unfoldable pub phase_keys : Phase → List ℕ
-phase_keys phase =
-    codes ",\"phase\":\"" ++ (phase_word phase ++ (codes "\",\"linux\":\"" ++ (linux_word phase ++ codes "\"")))
+-- `,"phase":"settle"`: where the call stands now
+unfoldable pub phase_key : Phase → List ℕ
+phase_key phase = codes ",\"phase\":\"" ++ (phase_word phase ++ codes "\"")
+
+-- `,"linux":"region_add"`: what the step did in Linux. It was made from that phase, and led to that core
+unfoldable pub linux_key : CoreState → (column : ℕ) → (from : Option Phase) → List ℕ
+linux_key core column None = []
+linux_key core column (Some from) = codes ",\"linux\":\"" ++ (linux_of_step core column from ++ codes "\"")
 
 -- `,"file":0,"index":3`
 abbrev pub place_keys : (file index : ℕ) → List ℕ
@@ -133,12 +137,14 @@ unfoldable pub reason_key : Refusal → List ℕ
 reason_key refusal = codes ",\"reason\":\"" ++ (refusal_word refusal ++ codes "\"")
 
 -- what came of an event: the outcome's word, and what stands behind it in words
-abbrev pub outcome_keys : CoreState → Event → Outcome → List ℕ
-outcome_keys core event outcome.Begun = outcome_key (codes "begun")
-outcome_keys core event (outcome.Moved phase) =
-    outcome_key (codes "moved") ++ (phase_keys phase ++ place_in core (column_of (config_of core).tasks event))
-outcome_keys core event (outcome.Blocked holder) = outcome_key (codes "blocked") ++ by_key holder
-outcome_keys core event (outcome.Ended answer) = outcome_key (codes "ended") ++ answer_keys answer
-outcome_keys core event outcome.Marked = outcome_key (codes "marked")
-outcome_keys core event (outcome.Resized frames) = outcome_key (codes "resized") ++ number_key frames
-outcome_keys core event (outcome.Refused refusal) = outcome_key (codes "refused") ++ reason_key refusal
+abbrev pub outcome_keys : CoreState → Event → (from : Option Phase) → Outcome → List ℕ
+outcome_keys core event from outcome.Begun = outcome_key (codes "begun")
+outcome_keys core event from (outcome.Moved phase) =
+    outcome_key (codes "moved")
+    ++ (phase_key phase
+    ++ (linux_key core (column_of (config_of core).tasks event) from ++ place_in core (column_of (config_of core).tasks event)))
+outcome_keys core event from (outcome.Blocked holder) = outcome_key (codes "blocked") ++ by_key holder
+outcome_keys core event from (outcome.Ended answer) = outcome_key (codes "ended") ++ answer_keys answer
+outcome_keys core event from outcome.Marked = outcome_key (codes "marked")
+outcome_keys core event from (outcome.Resized frames) = outcome_key (codes "resized") ++ number_key frames
+outcome_keys core event from (outcome.Refused refusal) = outcome_key (codes "refused") ++ reason_key refusal

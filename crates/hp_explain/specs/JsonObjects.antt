@@ -7,7 +7,8 @@ use Rattle.hp_machine.specs.Text.{life_word}
 use Rattle.hp_core.specs.Readers.{config_of, calls_of, size_of, reserved_of, regions_of, pages_of, changes_of, spare_of}
 use Rattle.hp_core.specs.Readers.{life_of, mappings_of, entries_of}
 use Rattle.hp_core.specs.State.{CoreState}
-use Rattle.hp_explain.specs.Happenings.{Happening, Telling, texts_of}
+use Rattle.hp_watch.specs.Happenings.{Happening}
+use Rattle.hp_explain.specs.Happenings.{Telling, texts_of}
 use Rattle.hp_explain.specs.JsonCalls.{call_keys_in, call_keys_of, count_keys, waits_key, waits_objects}
 use Rattle.hp_explain.specs.JsonEvents.{event_keys, outcome_keys}
 use Rattle.hp_explain.specs.Views.{is_shown}
@@ -32,7 +33,7 @@ abbrev pub object_text : (line : ℕ) → (before : List (Option ℕ)) → Happe
 object_text line before h =
     codes "{\"line\":" ++ (decimal line
     ++ (event_keys h.event
-    ++ (outcome_keys h.core h.event h.outcome
+    ++ (outcome_keys h.core h.event h.from h.outcome
     ++ (call_keys_in h.core (column_of (config_of h.core).tasks h.event)
     ++ (count_keys h.core
     ++ (waits_key (waits_objects h.core before h.holders (config_of h.core).tasks) ++ codes "}\n"))))))

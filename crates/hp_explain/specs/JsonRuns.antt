@@ -9,10 +9,10 @@ use Rattle.hp_core.specs.State.{CoreState}
 use Rattle.hp_text.specs.Collecting.{ReadsTrace, NotRead}
 use Rattle.hp_text.specs.Writing.{Wrote, IsWriteFault}
 use Rattle.hp_text.specs.declared.fault.ReplayFault.{ReplayFault}
-use Rattle.hp_explain.specs.Happenings.{Happening, Happens, events_of}
+use Rattle.hp_watch.specs.Happenings.{Happening, Happens, events_of}
 use Rattle.hp_explain.specs.JsonObjects.{pool_object, objects_text, end_object}
 use Rattle.hp_explain.specs.Views.{events_until}
-use Rattle.hp_explain.specs.Waits.{AreHolders}
+use Rattle.hp_watch.specs.Holders.{AreHolders}
 use Rattle.hp_explain.specs.declared.view.View.{View}
 
 -- A reader had the bytes `from` left, and now has `to`; a writer held `before`, and now holds `after`.

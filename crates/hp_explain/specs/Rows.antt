@@ -11,7 +11,8 @@ use Rattle.hp_core.specs.State.{CoreState}
 use Rattle.hp_core.specs.Acquiring.{acquired_of, owed_by_of}
 use Rattle.hp_core.specs.declared.holding.Holding.{Holding}
 use Rattle.hp_replay.specs.Outcomes.{state_text}
-use Rattle.hp_explain.specs.Happenings.{Happening, texts_of}
+use Rattle.hp_watch.specs.Happenings.{Happening}
+use Rattle.hp_explain.specs.Happenings.{texts_of}
 use Rattle.hp_explain.specs.Layout.{columns, titles, right, right_signed}
 use Rattle.hp_explain.specs.Views.{column_in, is_shown}
 use Rattle.hp_explain.specs.declared.view.View.{View}
@@ -29,9 +30,9 @@ head_text compact quota widths =
     codes "   line  " ++ (titles compact widths (length widths) ++ (codes "free  resv  owed" ++ (used_title quota ++ 10 ∷ [])))
 
 -- the event in the column of its task, with what came of it
-abbrev pub cells : View → (widths : List ℕ) → CoreState → Event → Outcome → List ℕ
-cells v widths core event outcome =
-    columns widths (column_in v.compact (config_of core).tasks event) (cell_text v.linux core event outcome) (length widths)
+abbrev pub cells : View → (widths : List ℕ) → CoreState → Event → (from : Option Phase) → Outcome → List ℕ
+cells v widths core event from outcome =
+    columns widths (column_in v.compact (config_of core).tasks event) (cell_text v.linux core event from outcome) (length widths)
 
 -- the used count, where the pool has a quota
 abbrev pub used_count : (quota : Option ℕ) → CoreState → List ℕ
@@ -49,7 +50,7 @@ counts core =
 abbrev pub row_text : View → (widths : List ℕ) → (line : ℕ) → (before : List (Option ℕ)) → Happening → List ℕ
 row_text v widths line before h =
     right 7 line ++ (codes "  "
-    ++ (cells v widths h.core h.event h.outcome
+    ++ (cells v widths h.core h.event h.from h.outcome
     ++ (counts h.core ++ (changes_text v.compact h.core before h.holders (config_of h.core).tasks ++ 10 ∷ []))))
 
 -- the same, if the event has a row

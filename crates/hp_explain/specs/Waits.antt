@@ -1,20 +1,10 @@
--- Whom tasks wait for, and what is told where that changes.
-use Rattle.std.specs.Prelude.{◌≡◌, ℕ, zero, suc, ◌-◌, ◌≤◌, ◌==◌, Bool, List, [], ◌++◌, Option, None, Some, codes, length}
+-- What is told where it changes whom a task waits for.
+use Rattle.std.specs.Prelude.{ℕ, zero, suc, ◌==◌, Bool, List, [], ◌++◌, Option, None, Some, codes}
 use Rattle.std.specs.Prelude.{if◌then◌else◌, slice_index_or}
 use Rattle.std.specs.Fmt.{decimal}
 use Rattle.hp_core.specs.Acquiring.{acquired_of}
-use Rattle.hp_core.specs.Readers.{config_of}
 use Rattle.hp_core.specs.State.{CoreState}
-use Rattle.hp_core.specs.Waiting.{WaitsFor}
 use Rattle.hp_explain.specs.Words.{wanted_text}
-
--- for each task of these holders, from task 1 on, the one by whom its next step would be blocked, if it would be by anybody
-unfoldable pub AreHoldersOf : CoreState → List (Option ℕ) → Type 0
-AreHoldersOf core holders = (t : ℕ) (d : Option ℕ) → 1 ≤ t → t ≤ length holders → WaitsFor core t (slice_index_or holders (t - 1) d)
-
--- of all tasks
-abbrev pub AreHolders : CoreState → List (Option ℕ) → Type 0
-AreHolders core holders = (length holders ≡ (config_of core).tasks) × AreHoldersOf core holders
 
 -- what stands before each change: two spaces, or a line of its own
 abbrev pub lead : (compact : Bool) → List ℕ

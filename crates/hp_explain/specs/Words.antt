@@ -7,7 +7,7 @@ use Rattle.hp_text.specs.Columns.{column_of}
 use Rattle.hp_machine.specs.State.{slot_of}
 use Rattle.hp_machine.specs.Text.{outcome_text}
 use Rattle.hp_machine.specs.declared.phase.Phase.{Phase}
-use Rattle.hp_words.specs.Linux.{linux_word}
+use Rattle.hp_watch.specs.Linux.{linux_of_step}
 use Rattle.hp_machine.specs.declared.outcome.Outcome.{Outcome}
 use Rattle.hp_machine.specs.declared.outcome.Outcome.TheVariants as outcome
 use Rattle.hp_core.specs.Readers.{config_of}
@@ -49,23 +49,25 @@ index_text None (wanted.Slot file index) = codes ", index " ++ decimal index
 abbrev pub index_in : CoreState → (column : ℕ) → List ℕ
 index_in core column = if column == 0 then [] else index_text (holding_of core column).slot (acquired_of core column)
 
--- ` (region_add)`, where Linux's functions are asked for
-abbrev pub linux_part : (linux : Bool) → Phase → List ℕ
-linux_part linux phase = if linux then codes " (" ++ (linux_word phase ++ codes ")") else []
+-- ` (region_add)`: what the step did in Linux, where that is asked for. It was made from that phase, and led to that core
+abbrev pub linux_part : (linux : Bool) → CoreState → (column : ℕ) → (from : Option Phase) → List ℕ
+linux_part linux core column None = []
+linux_part linux core column (Some from) = if linux then codes " (" ++ (linux_of_step core column from ++ codes ")") else []
 
--- `moved taken, index 3`, or `moved taken (region_add), index 3`; `blocked by 2: slot 3, file 0 index 0`, else the outcome as it is
-abbrev pub outcome_words : (linux : Bool) → CoreState → Event → Outcome → List ℕ
-outcome_words linux core event outcome.Begun = outcome_text outcome.Begun
-outcome_words linux core event (outcome.Moved phase) =
-    outcome_text (outcome.Moved phase) ++ (linux_part linux phase ++ index_in core (column_of (config_of core).tasks event))
-outcome_words linux core event (outcome.Blocked holder) =
+-- `moved settle, index 3`, or `moved settle (region_add), index 3`; `blocked by 2: slot 3, file 0 index 0`, else the outcome as it is
+abbrev pub outcome_words : (linux : Bool) → CoreState → Event → (from : Option Phase) → Outcome → List ℕ
+outcome_words linux core event from outcome.Begun = outcome_text outcome.Begun
+outcome_words linux core event from (outcome.Moved phase) =
+    outcome_text (outcome.Moved phase)
+    ++ (linux_part linux core (column_of (config_of core).tasks event) from ++ index_in core (column_of (config_of core).tasks event))
+outcome_words linux core event from (outcome.Blocked holder) =
     codes "blocked by " ++ (decimal holder
     ++ (codes ": " ++ wanted_text core (wanted_in core (column_of (config_of core).tasks event))))
-outcome_words linux core event (outcome.Ended answer) = outcome_text (outcome.Ended answer)
-outcome_words linux core event outcome.Marked = outcome_text outcome.Marked
-outcome_words linux core event (outcome.Resized frames) = outcome_text (outcome.Resized frames)
-outcome_words linux core event (outcome.Refused refusal) = outcome_text (outcome.Refused refusal)
+outcome_words linux core event from (outcome.Ended answer) = outcome_text (outcome.Ended answer)
+outcome_words linux core event from outcome.Marked = outcome_text outcome.Marked
+outcome_words linux core event from (outcome.Resized frames) = outcome_text (outcome.Resized frames)
+outcome_words linux core event from (outcome.Refused refusal) = outcome_text (outcome.Refused refusal)
 
 -- the event, and what came of it: `step 1: moved want`
-abbrev pub cell_text : (linux : Bool) → CoreState → Event → Outcome → List ℕ
-cell_text linux core event outcome = event_text event ++ (codes ": " ++ outcome_words linux core event outcome)
+abbrev pub cell_text : (linux : Bool) → CoreState → Event → (from : Option Phase) → Outcome → List ℕ
+cell_text linux core event from outcome = event_text event ++ (codes ": " ++ outcome_words linux core event from outcome)

@@ -11,8 +11,8 @@ use crate::ending::write_end;
 use crate::measuring::measure;
 use crate::rows::{write_head, write_rows};
 use crate::view::View;
-use crate::waits::Run;
 use hp_text::{MOST_EVENTS, ReplayFault, Sink, Source, Trace, read_trace};
+use hp_watch::Run;
 use std::alloc::Global;
 
 /// Runs the trace up to the last line that is asked for. Writes a row for each event that is, with what came of it, the counts behind

@@ -7,7 +7,7 @@ ghost use Rattle.hp_explain.specs.Happenings.{EventPartlyTold, EventTold, Events
 ghost use Rattle.hp_explain.specs.JsonObjects.{end_object, object_text, pool_object, quota_key, shown_object};
 ghost use Rattle.hp_explain.specs.JsonRuns.{ExplainedJson, NotExplainedJson, WroteObjects, WroteSomeObjects};
 ghost use Rattle.hp_explain.specs.Views.{events_until};
-ghost use Rattle.hp_explain.specs.Waits.{AreHolders};
+ghost use Rattle.hp_watch.specs.Holders.{AreHolders};
 ghost use Rattle.hp_text.specs.Streams.{TellsReads, TellsWrites};
 ghost use Rattle.hp_text.specs.Traces.{HasFault};
 ghost use Rattle.hp_text.specs.Writing.{IsWriteFault, Wrote};
@@ -16,10 +16,10 @@ use crate::json_calls::{push_call_in, push_counts, push_waits};
 use crate::json_end::lay_end;
 use crate::json_events::{push_event, push_outcome};
 use crate::view::View;
-use crate::waits::Run;
 use hp_base::{Config, Event};
 use hp_core::{Core, Outcome};
 use hp_text::{MOST_EVENTS, ReplayFault, Sink, Source, Trace, column_of, read_trace, write_text};
+use hp_watch::Run;
 use std::alloc::{AllocError, Global};
 
 /// Appends the quota, if there is one.
@@ -64,13 +64,13 @@ fn lay_object(
     requires before { length run.now.before.items ≡ (config_of run.now.core).tasks }
     requires holders { length run.now.holders.items ≡ (config_of run.now.core).tasks }
     ensures { OnOk result (string_bytes text.new ≡ object_text line run.now.before.items
-        (record { event = event.now; outcome = outcome; core = run.now.core; holders = run.now.holders.items })) }
+        (record { event = event.now; outcome = outcome; core = run.now.core; holders = run.now.holders.items; from = run.now.from })) }
 {
     text.clear();
     let config = run.core.config();
     write!(text, "{{\"line\":{line}")?;
     push_event(event, text)?;
-    push_outcome(&run.core, event, outcome, text)?;
+    push_outcome(&run.core, event, run.from, outcome, text)?;
     push_call_in(&run.core, column_of(config.tasks, event), text)?;
     push_counts(&run.core, text)?;
     push_waits(
@@ -96,7 +96,7 @@ fn lay_shown(
     requires before { length run.now.before.items ≡ (config_of run.now.core).tasks }
     requires holders { length run.now.holders.items ≡ (config_of run.now.core).tasks }
     ensures { OnOk result (string_bytes text.new ≡ shown_object view.now line run.now.before.items
-        (record { event = event.now; outcome = outcome; core = run.now.core; holders = run.now.holders.items })) }
+        (record { event = event.now; outcome = outcome; core = run.now.core; holders = run.now.holders.items; from = run.now.from })) }
 {
     if view.shows(line, event) {
         return lay_object(line, run, event, outcome, waits, text);

@@ -1,13 +1,13 @@
 //! The keys of an event and of what came of it.
 ghost use Rattle.std.specs.Prelude.{◌≡◌, ◌≤◌, ◌++◌, Option, OnOk, string_bytes};
 ghost use Rattle.hp_core.specs.Readers.{config_of};
-ghost use Rattle.hp_explain.specs.JsonEvents.{answer_keys, by_key, event_key, event_keys, frames_key, number_key, op_keys};
-ghost use Rattle.hp_explain.specs.JsonEvents.{outcome_key, outcome_keys, phase_keys, place_in, place_of, reason_key, task_key};
+ghost use Rattle.hp_explain.specs.JsonEvents.{answer_keys, by_key, event_key, event_keys, frames_key, linux_key, number_key, op_keys};
+ghost use Rattle.hp_explain.specs.JsonEvents.{outcome_key, outcome_keys, phase_key, place_in, place_of, reason_key, task_key};
 
 use hp_base::{Event, File, Index, Op, Task};
 use hp_core::{Acquired, Answer, Core, Outcome, Phase, Refusal};
 use hp_text::column_of;
-use hp_words::linux_name;
+use hp_watch::linux_of_step;
 use std::alloc::AllocError;
 
 /// Appends the operation's word and its numbers.
@@ -101,13 +101,30 @@ pub(crate) fn push_event(event: &Event, text: &mut String) -> Result<(), AllocEr
     }
 }
 
-/// Appends the phase in which a call stands now, and what does in Linux what its next step does.
-#[tactic(auto, unfolding(crate::specs::JsonEvents::phase_keys))]
+/// Appends the phase in which a call stands now.
+#[tactic(auto, unfolding(crate::specs::JsonEvents::phase_key))]
 fn push_phase(phase: Phase, text: &mut String) -> Result<(), AllocError>
-    ensures { OnOk result (string_bytes text.new ≡ string_bytes text.old ++ phase_keys phase) }
+    ensures { OnOk result (string_bytes text.new ≡ string_bytes text.old ++ phase_key phase) }
 {
-    let linux = linux_name(phase);
-    write!(text, ",\"phase\":\"{phase}\",\"linux\":\"{linux}\"")
+    write!(text, ",\"phase\":\"{phase}\"")
+}
+
+/// Appends what a step did in Linux. It was made from that phase, and led to that core.
+#[tactic(auto, unfolding(crate::specs::JsonEvents::linux_key))]
+fn push_linux(
+    core: &Core,
+    column: u32,
+    from: Option<Phase>,
+    text: &mut String,
+) -> Result<(), AllocError>
+    requires { column ≤ (config_of core.now).tasks }
+    ensures { OnOk result (string_bytes text.new ≡ string_bytes text.old ++ linux_key core.now column from) }
+{
+    let Some(from) = from else {
+        return Ok(());
+    };
+    let linux = linux_of_step(core, column, from);
+    write!(text, ",\"linux\":\"{linux}\"")
 }
 
 /// Appends the place whose slot a call holds, or else wants.
@@ -183,22 +200,25 @@ fn push_reason(refusal: Refusal, text: &mut String) -> Result<(), AllocError>
     write!(text, ",\"reason\":\"{refusal}\"")
 }
 
-/// Appends what came of an event. `core` is the one that it led to.
+/// Appends what came of an event. `core` is the one that it led to, and `from` is where its task's call stood before it.
 pub(crate) fn push_outcome(
     core: &Core,
     event: &Event,
+    from: Option<Phase>,
     outcome: Outcome,
     text: &mut String,
 ) -> Result<(), AllocError>
-    ensures { OnOk result (string_bytes text.new ≡ string_bytes text.old ++ outcome_keys core.now event.now outcome) }
+    ensures { OnOk result (string_bytes text.new ≡ string_bytes text.old ++ outcome_keys core.now event.now from outcome) }
 {
     match outcome {
         Outcome::Begun => push_outcome_word("begun", text),
         Outcome::Moved(phase) => {
             let config = core.config();
+            let column = column_of(config.tasks, event);
             push_outcome_word("moved", text)?;
             push_phase(phase, text)?;
-            push_place_in(core, column_of(config.tasks, event), text)
+            push_linux(core, column, from, text)?;
+            push_place_in(core, column, text)
         }
         Outcome::Blocked(holder) => {
             push_outcome_word("blocked", text)?;

@@ -1,7 +1,7 @@
 //! Traces in words: for each event a row that a person can follow.
 //!
 //! It stands on hp_text, which reads traces, on hp_core, which runs them, on hp_replay, which lays out a pool's state,
-//! and on hp_words for Linux's names. It promises that what is written is the explanation of a run of the trace that
+//! and on hp_watch, which follows a run. It promises that what is written is the explanation of a run of the trace that
 //! was read, as far as a `View` asks for it: a row for each event, in its order, with its outcome and the pool's counts
 //! behind it, and with the tasks whose wait for another's slot or lock began, changed or ended by it; then each call in
 //! flight, and the state. Each such event's column is shown, with what stands over it, and is wider than the event; how

@@ -8,8 +8,9 @@ ghost use Rattle.hp_explain.specs.Widths.{HasRoom, HaveRoom, NoneNarrower};
 use crate::view::{View, column_in, tasks_apart};
 use crate::words::lay_cell;
 use hp_base::{Answer, Config, Event};
-use hp_core::{Core, Outcome};
+use hp_core::{Core, Outcome, Phase};
 use hp_text::MOST_EVENTS;
+use hp_watch::stood_at;
 use std::alloc::{AllocError, Global};
 
 /// A column for what is of no task and one for each task that has its own, each of no width.
@@ -35,6 +36,17 @@ fn widen(widths: &mut [usize], column: usize, text: &str)
     }
 }
 
+/// Lets an event happen. Where its task's call stood before it, and what came of it.
+fn happen(core: &mut Core, event: Event) -> Result<(Option<Phase>, Outcome), AllocError>
+    ensures { OnOk result (config_of core.new ≡ config_of core.old) }
+{
+    // The checker of borrows asks for a mention of the types that an outcome may hold.
+    let _no_answer: Option<Answer> = None;
+    let from = stood_at(core, &event);
+    let outcome: Outcome = core.step(event)?;
+    Ok((from, outcome))
+}
+
 /// Lets an event happen, and makes room for what is told of it, if it has a row.
 fn measure_event(
     view: &View,
@@ -52,11 +64,11 @@ fn measure_event(
 {
     // The checker of borrows asks for a mention of the types that an outcome may hold.
     let _no_answer: Option<Answer> = None;
-    let outcome: Outcome = core.step(event)?;
+    let (from, outcome) = happen(core, event)?;
     if !view.shows(line, &event) {
         return Ok(());
     }
-    lay_cell(view.linux, core, &event, outcome, cell)?;
+    lay_cell(view.linux, core, &event, from, outcome, cell)?;
     let config = core.config();
     widen(
         widths,

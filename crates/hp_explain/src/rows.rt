@@ -2,7 +2,7 @@
 ghost use Rattle.std.specs.Prelude.{◌≡◌, ◌≤◌, ◌++◌, ◌⊎◌, OnOk, IfErr, length, string_bytes};
 ghost use Rattle.hp_explain.specs.Happenings.{EventTold, EventPartlyTold, EventsTold, EventsPartlyTold};
 ghost use Rattle.hp_explain.specs.Rows.{cells, counts, head_text, row_text, shown_text, used_count};
-ghost use Rattle.hp_explain.specs.Waits.{AreHolders};
+ghost use Rattle.hp_watch.specs.Holders.{AreHolders};
 ghost use Rattle.hp_core.specs.Readers.{config_of, quota_of};
 ghost use Rattle.hp_text.specs.Streams.{TellsWrites};
 ghost use Rattle.hp_text.specs.Writing.{IsWriteFault, Wrote};
@@ -10,11 +10,12 @@ ghost use Rattle.std.specs.Io.KnownBytes.{Appends, Keeps};
 
 use crate::layout::{push_columns, push_titles};
 use crate::view::{View, column_in};
-use crate::waits::{Run, push_changes};
+use crate::waits::push_changes;
 use crate::words::lay_cell;
 use hp_base::Event;
-use hp_core::{Core, Outcome};
+use hp_core::{Core, Outcome, Phase};
 use hp_text::{MOST_EVENTS, ReplayFault, Sink, write_text};
+use hp_watch::Run;
 use std::alloc::AllocError;
 
 /// Writes what stands over the rows.
@@ -60,14 +61,15 @@ fn push_cells(
     widths: &[usize],
     core: &Core,
     event: &Event,
+    from: Option<Phase>,
     outcome: Outcome,
     cell: &mut String,
     row: &mut String,
 ) -> Result<(), AllocError>
     ensures { OnOk result (string_bytes row.new ≡ string_bytes row.old
-        ++ cells view.now widths.now core.now event.now outcome) }
+        ++ cells view.now widths.now core.now event.now from outcome) }
 {
-    lay_cell(view.linux, core, event, outcome, cell)?;
+    lay_cell(view.linux, core, event, from, outcome, cell)?;
     let config = core.config();
     push_columns(
         widths,
@@ -115,11 +117,11 @@ fn lay_row(
     requires before { length run.now.before.items ≡ (config_of run.now.core).tasks }
     requires holders { length run.now.holders.items ≡ (config_of run.now.core).tasks }
     ensures { OnOk result (string_bytes row.new ≡ row_text view.now widths.now line run.now.before.items
-        (record { event = event.now; outcome = outcome; core = run.now.core; holders = run.now.holders.items })) }
+        (record { event = event.now; outcome = outcome; core = run.now.core; holders = run.now.holders.items; from = run.now.from })) }
 {
     row.clear();
     write!(row, "{line:>7}  ")?;
-    push_cells(view, widths, &run.core, event, outcome, cell, row)?;
+    push_cells(view, widths, &run.core, event, run.from, outcome, cell, row)?;
     push_counts(&run.core, row)?;
     push_changes(
         view.compact,
@@ -145,7 +147,7 @@ fn lay_shown(
     requires before { length run.now.before.items ≡ (config_of run.now.core).tasks }
     requires holders { length run.now.holders.items ≡ (config_of run.now.core).tasks }
     ensures { OnOk result (string_bytes row.new ≡ shown_text view.now widths.now line run.now.before.items
-        (record { event = event.now; outcome = outcome; core = run.now.core; holders = run.now.holders.items })) }
+        (record { event = event.now; outcome = outcome; core = run.now.core; holders = run.now.holders.items; from = run.now.from })) }
 {
     if view.shows(line, event) {
         return lay_row(view, widths, line, run, event, outcome, cell, row);

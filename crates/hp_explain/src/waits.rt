@@ -1,66 +1,12 @@
-//! Whom tasks wait for, from event to event: also those that make no step, and so are never told that they are blocked.
-ghost use Rattle.std.specs.Prelude.{◌≡◌, ◌≤◌, ◌++◌, IfOk, OnOk, length, string_bytes};
+//! What is told where it changes whom a task waits for.
+ghost use Rattle.std.specs.Prelude.{◌≡◌, ◌≤◌, ◌++◌, OnOk, length, string_bytes};
 ghost use Rattle.hp_core.specs.Readers.{config_of};
-ghost use Rattle.hp_core.specs.Runs.{Row, IsOpening};
-ghost use Rattle.hp_explain.specs.Waits.{AreHolders, change_text, changes_text, end_of_wait_text, lead, wait_text};
+ghost use Rattle.hp_explain.specs.Waits.{change_text, changes_text, end_of_wait_text, lead, wait_text};
 
 use crate::words::push_acquired;
-use hp_base::{Config, Event, Op, Task};
-use hp_core::{Answer, Core, Outcome};
-use std::alloc::{AllocError, Global};
-use std::mem;
-
-/// A run between two events: the core, by whom each task's next step would be blocked there, and by whom it would have been before
-/// the last event.
-#[derive(Drop)]
-pub(crate) struct Run {
-    pub(crate) core: Core,
-    pub(crate) before: Vec<Option<Task>>,
-    pub(crate) holders: Vec<Option<Task>>,
-}
-
-/// Lists whom each task waits for.
-fn list_holders(core: &Core, holders: &mut Vec<Option<Task>>) -> Result<(), AllocError>
-    ensures { OnOk result (AreHolders core.now holders.new.items) }
-{
-    holders.clear();
-    let config = core.config();
-    for number in 0..config.tasks {
-        holders.push(core.waits_for(Task::new(number + 1)))?;
-    }
-    Ok(())
-}
-
-impl Run {
-    pub(crate) fn new(alloc: Global, config: Config) -> Result<Run, AllocError>
-        ensures opening { IfOk result (λ run. IsOpening config run.core) }
-        ensures holders { IfOk result (λ run. AreHolders run.core run.holders.items) }
-    {
-        let core = Core::new(alloc, config)?;
-        let mut holders = Vec::new(alloc);
-        list_holders(&core, &mut holders)?;
-        Ok(Run {
-            core,
-            before: Vec::new(alloc),
-            holders,
-        })
-    }
-
-    /// Lets an event happen.
-    pub(crate) fn happen(&mut self, event: Event) -> Result<Outcome, AllocError>
-        ensures row { IfOk result (λ outcome. Row self.old.core event outcome self.new.core) }
-        ensures config { OnOk result (config_of self.new.core ≡ config_of self.old.core) }
-        ensures before { OnOk result (self.new.before.items ≡ self.old.holders.items) }
-        ensures holders { OnOk result (AreHolders self.new.core self.new.holders.items) }
-    {
-        // The checker of borrows asks for a mention of the types that an event and an outcome may hold.
-        let _none: (Option<Answer>, Option<Op>) = (None, None);
-        let outcome = self.core.step(event)?;
-        mem::swap(&mut self.before, &mut self.holders);
-        list_holders(&self.core, &mut self.holders)?;
-        Ok(outcome)
-    }
-}
+use hp_base::Task;
+use hp_core::Core;
+use std::alloc::AllocError;
 
 /// Appends that the task waits for a holder now, and what for.
 fn push_wait(core: &Core, task: Task, holder: Task, row: &mut String) -> Result<(), AllocError>

@@ -8,7 +8,7 @@ use hp_base::{Event, File, Index, Task};
 use hp_core::{Acquired, Core, Outcome, Phase};
 use hp_slots::slot_number;
 use hp_text::column_of;
-use hp_words::linux_name;
+use hp_watch::linux_of_step;
 use std::alloc::AllocError;
 
 /// Appends the slot of an index, as `slot 3, file 0 index 0`.
@@ -78,12 +78,22 @@ fn push_index_in(core: &Core, column: u32, text: &mut String) -> Result<(), Allo
     push_index(core.holding(task).slot, core.acquiring(task), text)
 }
 
-/// Appends what does in Linux what the next step does, where that is asked for.
-fn push_linux(linux: bool, phase: Phase, text: &mut String) -> Result<(), AllocError>
-    ensures { OnOk result (string_bytes text.new ≡ string_bytes text.old ++ linux_part linux phase) }
+/// Appends what a step did in Linux, where that is asked for. It was made from that phase, and led to that core.
+fn push_linux(
+    linux: bool,
+    core: &Core,
+    column: u32,
+    from: Option<Phase>,
+    text: &mut String,
+) -> Result<(), AllocError>
+    requires { column ≤ (config_of core.now).tasks }
+    ensures { OnOk result (string_bytes text.new ≡ string_bytes text.old ++ linux_part linux core.now column from) }
 {
+    let Some(from) = from else {
+        return Ok(());
+    };
     if linux {
-        let name = linux_name(phase);
+        let name = linux_of_step(core, column, from);
         return write!(text, " ({name})");
     }
     Ok(())
@@ -95,10 +105,11 @@ fn push_outcome(
     linux: bool,
     core: &Core,
     event: &Event,
+    from: Option<Phase>,
     outcome: Outcome,
     text: &mut String,
 ) -> Result<(), AllocError>
-    ensures { OnOk result (string_bytes text.new ≡ string_bytes text.old ++ outcome_words linux core.now event.now outcome) }
+    ensures { OnOk result (string_bytes text.new ≡ string_bytes text.old ++ outcome_words linux core.now event.now from outcome) }
 {
     match outcome {
         Outcome::Blocked(holder) => {
@@ -107,27 +118,29 @@ fn push_outcome(
             write!(text, "blocked by {holder}: ")?;
             push_acquired(core, wanted, text)
         }
-        Outcome::Moved(phase) => {
+        Outcome::Moved(_) => {
             let config = core.config();
+            let column = column_of(config.tasks, event);
             write!(text, "{outcome}")?;
-            push_linux(linux, phase, text)?;
-            push_index_in(core, column_of(config.tasks, event), text)
+            push_linux(linux, core, column, from, text)?;
+            push_index_in(core, column, text)
         }
         _ => write!(text, "{outcome}"),
     }
 }
 
-/// Lays out an event and what came of it. `core` is the one that it led to.
+/// Lays out an event and what came of it. `core` is the one that it led to, and `from` is where its task's call stood before it.
 pub(crate) fn lay_cell(
     linux: bool,
     core: &Core,
     event: &Event,
+    from: Option<Phase>,
     outcome: Outcome,
     text: &mut String,
 ) -> Result<(), AllocError>
-    ensures { OnOk result (string_bytes text.new ≡ cell_text linux core.now event.now outcome) }
+    ensures { OnOk result (string_bytes text.new ≡ cell_text linux core.now event.now from outcome) }
 {
     text.clear();
     write!(text, "{event}: ")?;
-    push_outcome(linux, core, event, outcome, text)
+    push_outcome(linux, core, event, from, outcome, text)
 }

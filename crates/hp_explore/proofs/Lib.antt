@@ -5,11 +5,9 @@ pub mod Awaiting
 pub mod Inverse
 pub mod OneLine
 pub mod Others
-pub mod Phases
 pub mod Pieces
 pub mod Retained
 pub mod Runnable
 pub mod Runs
 pub mod SoFar
-pub mod Twins
 pub mod WrittenLines

@@ -26,8 +26,8 @@ use Rattle.hp_explore.specs.Schedule.{Plan, World, IsStart, Turn, Choice, CanTur
 use Rattle.hp_explore.specs.Schedule.{may_begin, next_needs}
 use Rattle.hp_explore.specs.Schedule.{choice_of, task_choice, picked, drawn, plan_of}
 use Rattle.hp_explore.specs.Explored.{Finds, IsFirst, IsRun, IsExplored, line_of, all_done, idle_finish, last_finish, turn_limit}
-use Rattle.hp_explore.proofs.Twins.{Twins, opening_twins, told_same, still_some, same_busy, same_life, same_resv, same_free}
-use Rattle.hp_explore.proofs.Twins.{waits_there, waits_here}
+use Rattle.hp_alike.proofs.Twins.{Twins, opening_twins, told_same, still_some, same_busy, same_life, same_resv, same_free}
+use Rattle.hp_alike.proofs.Twins.{waits_there, waits_here}
 
 -- two runs between two turns that differ in the names of frames alone
 pub record WorldTwins (v w : World) : Type 0 where

@@ -22,7 +22,7 @@ use Rattle.hp_core.specs.Waiting.{WaitsFor}
 use Rattle.hp_explore.specs.Schedule.{Plan, World, CanTurn, AreRunnableOf, IsPlan, in_call, may_begin, next_call}
 use Rattle.hp_explore.specs.Explored.{is_done, all_done, idle_finish}
 use Rattle.hp_explore.specs.declared.line.Finish.TheVariants.{Finished, Stuck}
-use Rattle.hp_explore.proofs.Twins.{still_some}
+use Rattle.hp_alike.proofs.Twins.{still_some}
 use Rattle.hp_explore.proofs.Awaiting as nobody
 
 -- one with a call in flight exactly where it waits for nobody

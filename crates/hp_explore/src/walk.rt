@@ -1,19 +1,18 @@
 //! One run, turn by turn. A turn takes about a hundred nanoseconds, so what it calls is inlined: a call that isn't passes
 //! what it answers through memory.
 ghost use Rattle.std.specs.Prelude.{◌≡◌, ◌+◌, ◌-◌, ◌<◌, ◌≤◌, ◌^◌, true, false, [], None, Some, IfOk, IfSome, OnOk};
-ghost use Rattle.std.specs.Prelude.{◌⊎◌, ℕ, IsSome, All, filter, is_some, length, replicate, slice_index};
+ghost use Rattle.std.specs.Prelude.{◌⊎◌, ℕ, IsSome, All, filter, is_some, length, slice_index};
 ghost use Rattle.std.specs.List.{list_all};
 ghost use Rattle.hp_machine.specs.State.{is_alive};
-ghost use Rattle.hp_core.specs.Readers.{life_of, phase_of, config_of};
+ghost use Rattle.hp_core.specs.Readers.{life_of, phase_of};
 ghost use Rattle.hp_core.specs.Runs.{Row};
 ghost use Rattle.hp_machine.specs.declared.outcome.Outcome.{Outcome};
 ghost use Rattle.hp_laws.specs.Laws.{IsOf};
 ghost use Rattle.hp_core.specs.Waiting.{WaitsFor};
 ghost use Rattle.hp_explore.specs.Schedule.{IsPlan, IsStart, Turn, CanTurn, AreRunnable, choice_at, next_call, in_call};
 ghost use Rattle.hp_explore.specs.Schedule.{ended, is_over, may_begin, next_needs};
-ghost use Rattle.hp_core.specs.Passing.{may_wait, task_may_leave, task_may_pass};
+ghost use Rattle.hp_core.specs.Passing.{task_may_leave};
 ghost use Rattle.hp_explore.specs.CanNow.{can_now};
-ghost use Rattle.hp_explore.specs.Phases.{Agrees};
 ghost use Rattle.hp_explore.specs.Explored.{EndsWell, IsClean, idle_finish, last_finish, line_of};
 
 use crate::line::{Finish, RunLine};
@@ -25,65 +24,12 @@ use hp_audit::{Finding, audit};
 use hp_base::{Event, Op, Task};
 use hp_core::{Answer, Core, Life, Outcome, Phase};
 use hp_text::Script;
+use hp_watch::{can_leave, may_pass, may_wait, no_calls, phase_after};
 use rand_core::SeedableRng;
 use rand_core::utils::NextWord;
 use rand_pcg::Lcg64Xsh32;
 use std::alloc::{AllocError, Global};
 use std::marker::Model;
-
-/// Whether the next step of a call that stands there may be blocked. That of any other can't.
-#[inline(always)]
-fn may_wait(at: Phase) -> bool
-    ensures { result ≡ may_wait at }
-{
-    matches!(at, Phase::Start | Phase::Want)
-}
-
-/// Whether the next turn of a task whose call stands there may take or leave a slot or a lock. That of any other leaves
-/// what the call holds.
-#[inline(always)]
-fn may_pass(at: Option<Phase>) -> bool
-    ensures { result ≡ task_may_pass at }
-{
-    matches!(
-        at,
-        Some(Phase::Start | Phase::Want | Phase::Unslot | Phase::Leave)
-    )
-}
-
-/// Whether the next turn of a task whose call stands there may leave a slot or a lock. That of any other keeps what the
-/// call holds.
-#[inline(always)]
-fn can_leave(at: Option<Phase>) -> bool
-    ensures { result ≡ task_may_leave at }
-{
-    matches!(at, Some(Phase::Unslot | Phase::Leave))
-}
-
-/// Where the task's call stands after its event. Most outcomes tell it.
-#[inline(always)]
-fn phase_after(core: &Core, task: u32, outcome: &Outcome) -> Option<Phase>
-    requires there { (1 ≤ task) × (task ≤ (config_of core.now).tasks) }
-    requires agrees { Agrees outcome.now (phase_of core.now task) }
-    ensures { result ≡ phase_of core.now task }
-{
-    match outcome {
-        Outcome::Moved(at) => Some(*at),
-        Outcome::Ended(_) => None,
-        _ => core.phase(Task::new(task)),
-    }
-}
-
-/// Where the calls of so many tasks stand before any has begun one.
-fn no_calls(alloc: Global, tasks: u32) -> Result<Vec<Option<Phase>>, AllocError>
-    ensures { IfOk result (λ phases. phases.items ≡ replicate tasks None) }
-{
-    let mut phases = Vec::with_capacity(alloc, tasks as usize)?;
-    for _ in 0..tasks {
-        phases.push_reserved(None);
-    }
-    Ok(phases)
-}
 
 /// A run between two turns.
 #[derive(Drop)]
@@ -102,7 +48,7 @@ impl Model for Walk {
     ghost use Rattle.std.specs.FinMap as map;
     ghost use Rattle.std.specs.Ordering.{nat_cmp};
     ghost use Rattle.hp_core.specs.Readers.{config_of};
-    ghost use Rattle.hp_explore.specs.Phases.{ArePhases};
+    ghost use Rattle.hp_watch.specs.Phases.{ArePhases};
     ghost use Rattle.hp_explore.specs.Schedule.{World};
 
     ghost Value = { World };
@@ -134,7 +80,7 @@ impl Walk {
     }
 
     /// Where the task's call stands, if one is in flight.
-    #[tactic(auto, unfolding(crate::specs::Phases::ArePhases))]
+    #[tactic(auto, unfolding(hp_watch::specs::Phases::ArePhases))]
     #[inline(always)]
     fn phase(&self, task: u32) -> Option<Phase>
         requires { (1 ≤ task) × (task ≤ length self.now.made) }
@@ -344,7 +290,7 @@ impl Walk {
         let _none: Option<Answer> = None;
         self.core.is_reached();
         let outcome = self.core.step(*event)?;
-        self.phases[task as usize - 1] = phase_after(&self.core, task, &outcome);
+        self.phases[task as usize - 1] = phase_after(&self.core, Task::new(task), &outcome);
         self.turns += 1;
         Ok(outcome)
     }

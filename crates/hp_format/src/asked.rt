@@ -1,12 +1,12 @@
 //! What a line asks for.
 ghost use Rattle.std.specs.Prelude.{◌≡◌, Some, IfOk, IfSome};
 ghost use Rattle.hp_format.specs.Asked.{AreAsked, AreAskedOf, IsAsked, goal_word, step_verb};
-ghost use Rattle.hp_machine.specs.Text.{phase_word};
 ghost use Rattle.hp_text.specs.Reading.{event_at};
 
 use crate::tidying::tidy;
 use hp_base::{Event, Task};
 use hp_machine::Phase;
+use hp_phases::phase_named;
 use hp_text::{MOST_EVENTS, after_word, event_at, last_at, short_at};
 use std::alloc::AllocError;
 
@@ -38,42 +38,6 @@ fn goal_named(word: &[u8]) -> Option<Goal>
         b"ended" => Some(Goal::Ended),
         _ => Some(Goal::Stands(phase_named(word)?)),
     }
-}
-
-/// The phase that is called so, as a replay prints it behind `moved`.
-pub fn phase_named(word: &[u8]) -> Option<Phase>
-    ensures { IfSome result (λ phase. phase_word phase ≡ word.now) }
-{
-    Some(match word {
-        b"start" => Phase::Start,
-        b"look" => Phase::Look,
-        b"want" => Phase::Want,
-        b"locked" => Phase::Locked,
-        b"missing" => Phase::Missing,
-        b"changed" => Phase::Changed,
-        b"abort" => Phase::Abort,
-        b"taken" => Phase::Taken,
-        b"settle" => Phase::Settle,
-        b"committed" => Phase::Committed,
-        b"restore" => Phase::Restore,
-        b"found" => Phase::Found,
-        b"leave" => Phase::Leave,
-        b"room" => Phase::Room,
-        b"accounted" => Phase::Accounted,
-        b"enter" => Phase::Enter,
-        b"head" => Phase::Head,
-        b"unslot" => Phase::Unslot,
-        b"extend" => Phase::Extend,
-        b"unmap" => Phase::Unmap,
-        b"evict" => Phase::Evict,
-        b"delete" => Phase::Delete,
-        b"free" => Phase::Free,
-        b"size" => Phase::Size,
-        b"tail" => Phase::Tail,
-        b"clear" => Phase::Clear,
-        b"drop" => Phase::Drop,
-        _ => return None,
-    })
 }
 
 /// The verb of a step, as memory is granted to it or denied.

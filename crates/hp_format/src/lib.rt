@@ -14,9 +14,10 @@ mod lines;
 mod loosening;
 mod tidying;
 
-pub use asked::{Asked, Goal, asked_of, phase_named};
+pub use asked::{Asked, Goal, asked_of};
 pub use draft::{Draft, Unadded, reaches};
 pub use fault::{LooseFault, Reason};
+pub use hp_phases::phase_named;
 pub use laws::a_strict_trace_stays;
 pub use loosening::read_loose;
 pub use tidying::tidy;

@@ -14,7 +14,6 @@ use Rattle.hp_machine.specs.declared.call.Call.{Call}
 use Rattle.hp_machine.specs.declared.outcome.Outcome.{Outcome}
 use Rattle.hp_machine.specs.declared.outcome.Outcome.TheVariants.{Blocked}
 use Rattle.hp_machine.specs.declared.phase.Phase.{Phase}
-use Rattle.hp_machine.specs.declared.phase.Phase.TheVariants as phase
 use Rattle.hp_laws.specs.Laws.{IsOf}
 use Rattle.hp_laws.proofs.Nearing.{others_stay}
 use Rattle.hp_laws.proofs.Reading.{step_cases}
@@ -26,51 +25,19 @@ use Rattle.hp_core.proofs.Growing.{HeldOn, held_same}
 use Rattle.hp_core.proofs.Holds.{HoldOn, holding_stays, holds_on_all, keeps_waiting}
 use Rattle.hp_core.specs.State.{CoreState, as_state}
 use Rattle.hp_core.specs.Waiting.{WaitsFor}
-use Rattle.hp_explore.specs.Phases.{ArePhases}
-use Rattle.hp_explore.proofs.Phases.{waits_not}
-use Rattle.hp_explore.proofs.Twins.{opening_reached}
+use Rattle.hp_alike.proofs.Twins.{opening_reached}
+use Rattle.hp_watch.specs.Phases.{ArePhases}
+use Rattle.hp_watch.proofs.Phases.{waits_not}
+use Rattle.hp_phases.proofs.Places.{one_place, there}
 use Rattle.hp_hunt.specs.Facts.{IsHeldUp, StandTogether}
 use Rattle.hp_hunt.specs.Moments.{Moment, Once}
 use Rattle.hp_hunt.specs.Noting.{AreHeldUp, AreMet, IsLookedAt, IsQuiet}
-use Rattle.hp_hunt.specs.Phases.{ArePair, IsMarked, MeetsBelow, all_phases, beside, pair_place, place_of}
+use Rattle.hp_hunt.specs.Phases.{ArePair, IsMarked, MeetsBelow, beside, pair_place}
 use Rattle.hp_hunt.proofs.Watches.{stands_there}
 
 -- ---- pairs of phases
 
-there : (p : Phase) → (place_of p < 27) × (slice_index_or all_phases (place_of p) phase.Start ≡ p)
-there phase.Start = (omega arith, refl)
-there phase.Look = (omega arith, refl)
-there phase.Want = (omega arith, refl)
-there phase.Locked = (omega arith, refl)
-there phase.Missing = (omega arith, refl)
-there phase.Changed = (omega arith, refl)
-there phase.Abort = (omega arith, refl)
-there phase.Taken = (omega arith, refl)
-there phase.Settle = (omega arith, refl)
-there phase.Committed = (omega arith, refl)
-there phase.Restore = (omega arith, refl)
-there phase.Found = (omega arith, refl)
-there phase.Leave = (omega arith, refl)
-there phase.Room = (omega arith, refl)
-there phase.Accounted = (omega arith, refl)
-there phase.Enter = (omega arith, refl)
-there phase.Head = (omega arith, refl)
-there phase.Unslot = (omega arith, refl)
-there phase.Extend = (omega arith, refl)
-there phase.Unmap = (omega arith, refl)
-there phase.Evict = (omega arith, refl)
-there phase.Delete = (omega arith, refl)
-there phase.Free = (omega arith, refl)
-there phase.Size = (omega arith, refl)
-there phase.Tail = (omega arith, refl)
-there phase.Clear = (omega arith, refl)
-there phase.Drop = (omega arith, refl)
-
--- a phase is told by its place
-one_place : (p q : Phase) → place_of p ≡ place_of q → p ≡ q
-one_place p q e = sym (there p).1 ∙ ap (λ (k : ℕ). slice_index_or all_phases k phase.Start) e ∙ (there q).1
-
--- and a pair by its
+-- a pair is told by its place
 one_pair : (p q a b : Phase) → pair_place p q ≡ pair_place a b → (p ≡ a) × (q ≡ b)
 one_pair p q a b e = (
   one_place p a (omega (arith, e, (there p).0, (there q).0, (there a).0, (there b).0)),

@@ -8,7 +8,7 @@ use Rattle.hp_laws.specs.Laws.{IsOf}
 use Rattle.hp_core.specs.Passing.{task_may_pass}
 use Rattle.hp_core.specs.Runs.{Row}
 use Rattle.hp_core.specs.State.{CoreState, as_state}
-use Rattle.hp_explore.specs.Phases.{ArePhases}
+use Rattle.hp_watch.specs.Phases.{ArePhases}
 use Rattle.hp_hunt.specs.Facts.{HaveMet, IsHeldUp, StandTogether, WasHeldUp, ended_in}
 use Rattle.hp_hunt.specs.Moments.{Moment, Once}
 use Rattle.hp_hunt.specs.Phases.{IsMarked}

@@ -5,7 +5,8 @@ use Rattle.std.specs.List.{flat_map, range_with_len}
 use Rattle.hp_base.specs.Text.{answer_text}
 use Rattle.hp_machine.specs.Text.{phase_word}
 use Rattle.hp_machine.specs.declared.phase.Phase.{Phase}
-use Rattle.hp_hunt.specs.Phases.{all_phases, pair_place, place_of}
+use Rattle.hp_phases.specs.Phases.{all_phases, place_of}
+use Rattle.hp_hunt.specs.Phases.{pair_place}
 use Rattle.hp_hunt.specs.declared.facts.Ended.{Ended}
 use Rattle.hp_hunt.specs.declared.summary.Summary.{Summary}
 use Rattle.hp_hunt.specs.declared.tally.Ending.{Ending}

@@ -1,23 +1,23 @@
 //! What is noted of a run while it is made.
 ghost use Rattle.std.specs.Prelude.{◌≡◌, ◌↔◌, ◌⊎◌, ◌+◌, ◌<◌, ◌≤◌, ◌^◌, ℕ, true, false, List, [], ◌∷◌, IsTrue, None};
-ghost use Rattle.std.specs.Prelude.{IfOk, IfSome, OnOk, length, replicate, slice_index_or};
+ghost use Rattle.std.specs.Prelude.{IfOk, IfSome, OnOk, length, slice_index_or};
 ghost use Rattle.hp_base.specs.declared.config.Config.{Config};
 ghost use Rattle.hp_machine.specs.declared.outcome.Outcome.{Outcome};
 ghost use Rattle.hp_laws.specs.Laws.{IsOf};
-ghost use Rattle.hp_core.specs.Passing.{may_wait, task_may_pass};
-ghost use Rattle.hp_core.specs.Readers.{config_of, phase_of};
+ghost use Rattle.hp_core.specs.Readers.{config_of};
 ghost use Rattle.hp_core.specs.Runs.{IsOpening, Row};
 ghost use Rattle.hp_core.specs.State.{CoreState};
-ghost use Rattle.hp_explore.specs.Phases.{Agrees, ArePhases};
 ghost use Rattle.hp_hunt.specs.Facts.{IsHeldUp, ended_by};
 ghost use Rattle.hp_hunt.specs.Moments.{Moment};
 ghost use Rattle.hp_hunt.specs.Noting.{AreLong, AreMet, AreNotes, CameBy, IsLookedAt, IsQuiet};
+ghost use Rattle.hp_watch.specs.Phases.{ArePhases};
 
 use crate::facts::Ended;
 use crate::phases::{PAIRS, mark_meetings};
 use crate::watching::is_held_up;
 use hp_base::{Answer, Event, Op, Task};
 use hp_core::{Core, Outcome, Phase};
+use hp_watch::{may_pass, may_wait, no_calls, phase_after};
 use std::alloc::{AllocError, Global};
 
 /// What is noted of a run while it is made.
@@ -72,26 +72,6 @@ fn ended_by(event: &Event, outcome: &Outcome) -> Option<Ended>
     }
 }
 
-/// Whether the next step of a call that stands there may be blocked. That of any other can't.
-#[inline(always)]
-fn may_wait(at: Option<Phase>) -> bool
-    ensures some { IfSome at (λ phase. result ≡ may_wait phase) }
-    ensures none { at ≡ None → result ≡ false }
-{
-    matches!(at, Some(Phase::Start | Phase::Want))
-}
-
-/// Whether an event of a task whose call stood there may take or leave a slot or a lock. Any other leaves what the call holds.
-#[inline(always)]
-fn may_pass(at: Option<Phase>) -> bool
-    ensures { result ≡ task_may_pass at }
-{
-    matches!(
-        at,
-        Some(Phase::Start | Phase::Want | Phase::Unslot | Phase::Leave)
-    )
-}
-
 /// The place of the event's task, where its call, of those that stood so, takes and leaves nothing by it: then nobody else is held up
 /// who wasn't before.
 #[inline(always)]
@@ -106,20 +86,6 @@ fn quiet_place(event: &Event, phases: &[Option<Phase>], tasks: u32) -> Option<u3
     }
 }
 
-/// Where the task's call stands after its event. Most outcomes tell it.
-#[inline(always)]
-fn phase_after(core: &Core, task: Task, outcome: &Outcome) -> Option<Phase>
-    requires there { (1 ≤ task) × (task ≤ (config_of core.now).tasks) }
-    requires agrees { Agrees outcome.now (phase_of core.now task) }
-    ensures { result ≡ phase_of core.now task }
-{
-    match outcome {
-        Outcome::Moved(at) => Some(*at),
-        Outcome::Ended(_) => None,
-        _ => core.phase(task),
-    }
-}
-
 /// Whether the next step of the call of the task at this place is blocked by somebody.
 #[inline(always)]
 fn is_waiting(core: &Core, phases: &[Option<Phase>], place: u32) -> bool
@@ -128,7 +94,10 @@ fn is_waiting(core: &Core, phases: &[Option<Phase>], place: u32) -> bool
     requires fits { place + 1 < 2 ^ 32 }
     ensures { IsTrue result ↔ IsHeldUp core.now (place + 1) }
 {
-    may_wait(phases[place as usize]) && is_held_up(core, Task::new(place + 1))
+    match phases[place as usize] {
+        Some(at) => may_wait(at) && is_held_up(core, Task::new(place + 1)),
+        None => false,
+    }
 }
 
 /// Marks each task that is held up. It is lent a slice, so that its place is known in each round.
@@ -209,17 +178,6 @@ fn note_phase(
         phases[task.place()] = phase_after(core, task, outcome);
         mark_meetings(met, phases.as_slice(), task.place());
     }
-}
-
-/// Where the calls of so many tasks stand before any has begun one.
-fn no_calls(alloc: Global, tasks: u32) -> Result<Vec<Option<Phase>>, AllocError>
-    ensures { IfOk result (λ phases. phases.items ≡ replicate tasks None) }
-{
-    let mut phases = Vec::with_capacity(alloc, tasks as usize)?;
-    for _ in 0..tasks {
-        phases.push(None)?;
-    }
-    Ok(phases)
 }
 
 impl Notes {

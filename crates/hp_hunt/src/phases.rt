@@ -1,51 +1,13 @@
 //! The phases in which calls stand, and which two of them met.
 ghost use Rattle.std.specs.Prelude.{◌≡◌, ◌<◌, ◌⊎◌, ◌↔◌, length};
-ghost use Rattle.hp_hunt.specs.Phases.{ArePair, IsMarked, MeetsBelow, beside, pair_place, place_of};
+ghost use Rattle.hp_hunt.specs.Phases.{ArePair, IsMarked, MeetsBelow, beside, pair_place};
 ghost use Rattle.hp_machine.specs.declared.phase.Phase.{Phase};
 
 use hp_core::Phase;
-
-/// How many phases there are.
-pub(crate) const PHASES: usize = 27;
+use hp_phases::{PHASES, place_of};
 
 /// How many pairs of phases there are, each two in both orders.
 pub(crate) const PAIRS: usize = PHASES * PHASES;
-
-/// The place of the phase among all.
-pub(crate) fn place_of(phase: Phase) -> usize
-    ensures place { result ≡ place_of phase }
-    ensures within { result < 27 }
-{
-    match phase {
-        Phase::Start => 0,
-        Phase::Look => 1,
-        Phase::Want => 2,
-        Phase::Locked => 3,
-        Phase::Missing => 4,
-        Phase::Changed => 5,
-        Phase::Abort => 6,
-        Phase::Taken => 7,
-        Phase::Settle => 8,
-        Phase::Committed => 9,
-        Phase::Restore => 10,
-        Phase::Found => 11,
-        Phase::Leave => 12,
-        Phase::Room => 13,
-        Phase::Accounted => 14,
-        Phase::Enter => 15,
-        Phase::Head => 16,
-        Phase::Unslot => 17,
-        Phase::Extend => 18,
-        Phase::Unmap => 19,
-        Phase::Evict => 20,
-        Phase::Delete => 21,
-        Phase::Free => 22,
-        Phase::Size => 23,
-        Phase::Tail => 24,
-        Phase::Clear => 25,
-        Phase::Drop => 26,
-    }
-}
 
 /// The place of the two phases among all pairs.
 pub(crate) fn pair_place(one: Phase, other: Phase) -> usize

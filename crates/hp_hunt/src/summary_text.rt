@@ -1,60 +1,22 @@
 //! A summary as text: a line for each fact, whose first word says which kind of fact it is.
-ghost use Rattle.std.specs.Prelude.{◌≡◌, ◌+◌, ◌<◌, ◌++◌, ◌^◌, ◌%◌, OnOk, IfErr, IfOk, length, slice_index_or, string_bytes};
+ghost use Rattle.std.specs.Prelude.{◌≡◌, ◌+◌, ◌<◌, ◌++◌, ◌^◌, ◌%◌, OnOk, IfErr, IfOk, length, string_bytes};
 ghost use Rattle.std.specs.Io.KnownBytes.{Appends};
 ghost use Rattle.std.specs.List.{flat_map};
-ghost use Rattle.hp_hunt.specs.Phases.{all_phases};
 ghost use Rattle.hp_hunt.specs.SummaryText.{any_line, call_text, ending_line, held_line, held_text, met_line, met_text, other_line};
 ghost use Rattle.hp_hunt.specs.SummaryText.{runs_line, summary_text, turns_line};
+ghost use Rattle.hp_phases.specs.Phases.{all_phases};
 ghost use Rattle.hp_text.specs.Streams.{TellsWrites};
 ghost use Rattle.hp_text.specs.Writing.{IsWriteFault, Wrote};
 
 use crate::facts::Ended;
-use crate::phases::{PHASES, pair_place, place_of};
+use crate::phases::pair_place;
 use crate::summary::Summary;
 use crate::tally::Ending;
 use hp_base::Answer;
 use hp_core::Phase;
+use hp_phases::{PHASES, phase_at, place_of};
 use hp_text::{ReplayFault, Sink, write_text};
 use std::alloc::{AllocError, Global};
-
-/// All phases, in the order in which a summary names them.
-const IN_ORDER: [Phase; PHASES] = [
-    Phase::Start,
-    Phase::Look,
-    Phase::Want,
-    Phase::Locked,
-    Phase::Missing,
-    Phase::Changed,
-    Phase::Abort,
-    Phase::Taken,
-    Phase::Settle,
-    Phase::Committed,
-    Phase::Restore,
-    Phase::Found,
-    Phase::Leave,
-    Phase::Room,
-    Phase::Accounted,
-    Phase::Enter,
-    Phase::Head,
-    Phase::Unslot,
-    Phase::Extend,
-    Phase::Unmap,
-    Phase::Evict,
-    Phase::Delete,
-    Phase::Free,
-    Phase::Size,
-    Phase::Tail,
-    Phase::Clear,
-    Phase::Drop,
-];
-
-/// The phase at this place among all.
-fn phase_at(place: usize) -> Phase
-    requires { place < 27 }
-    ensures { result ≡ slice_index_or all_phases place Phase.Start }
-{
-    IN_ORDER[place]
-}
 
 /// Lays out how runs ended.
 fn push_runs(summary: &Summary, text: &mut String) -> Result<(), AllocError>

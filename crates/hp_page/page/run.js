@@ -2,8 +2,11 @@
 
 // answers of a call that did what it was to do; all others are failures
 const SUCCESSES = new Set(["mapped", "word", "done"]);
-// the phases in which calls begin, whose function of Linux no move names (docs/MACHINE.md, "The phases in Linux")
-const FIRST_FUNCTIONS = { start: "inode_lock", look: "hugetlb_fault" };
+// the functions of Linux by which calls begin and end, where no move of the run names them (docs/MACHINE.md, "The phases in Linux")
+const OUTER_FUNCTIONS = {
+  look: "hugetlb_fault", start: "inode_lock", "unmap start": "find_vma", "exit start": "find_vma",
+  leave: "inode_unlock", "load leave": "mutex_unlock", "store leave": "mutex_unlock", "exit leave": "do_exit",
+};
 const MARKS = ["blocked", "refused", "denied", "killed", "failed", "resized"];
 // counts are summed up in blocks of so many events
 const BLOCK = 64;
@@ -165,7 +168,7 @@ function newColumns(count) {
   const codes = () => new Uint8Array(count);
   return {
     task: new Float64Array(count),
-    event: codes(), operation: codes(), call: codes(), outcome: codes(), word: codes(), lane: codes(), waits: codes(),
+    event: codes(), operation: codes(), call: codes(), outcome: codes(), word: codes(), linux: codes(), lane: codes(), waits: codes(),
     file: numbers().fill(-1), index: numbers().fill(-1),
     free: numbers(), resv: numbers(), bare: numbers(), owed: numbers(), used: numbers(),
   };
@@ -182,7 +185,8 @@ function noteWords(run, at, event, lane) {
   columns.waits[at] = event.waits ? 1 : 0;
   columns.file[at] = event.file ?? -1;
   columns.index[at] = event.index ?? -1;
-  if (event.linux) run.functions.set(event.phase, event.linux);
+  columns.linux[at] = dictionary.codeOf(event.linux);
+  if (event.linux) run.functions.set(`${lane.standing.operation} ${lane.standing.phase}`, event.linux);
 }
 
 function noteCounts(columns, at, event) {
@@ -236,7 +240,7 @@ function readRun(text) {
   if (!pool) return null;
   const lanes = new Map();
   const laneOf = (task) => lanes.get(task) ?? lanes.set(task, newLane(task)).get(task);
-  const run = { pool, lines, columns: newColumns(lines.length), dictionary: newDictionary(), functions: new Map(Object.entries(FIRST_FUNCTIONS)) };
+  const run = { pool, lines, columns: newColumns(lines.length), dictionary: newDictionary(), functions: new Map() };
   Object.assign(run, readEvents(run, laneOf));
   for (const lane of lanes.values()) endLane(lane, run.count);
   run.columns = cutTo(run.columns, run.count);
@@ -265,6 +269,12 @@ function standingAt(run, lane, at) {
   const begun = lane.calls.since[place];
   const last = eventAt(run, lane.events[lastUpTo(lane.events, at)]);
   return { task: lane.task, begun, call: eventAt(run, begun), phase: last.at, holds: last.holds ?? {}, wants: last.wants ?? {}, owes: last.owes ?? 0 };
+}
+
+/** The function of Linux that does what the next step of a call does, or nothing where the run doesn't say. */
+function functionOf(run, operation, phase) {
+  const both = `${operation} ${phase}`;
+  return run.functions.get(both) ?? OUTER_FUNCTIONS[both] ?? OUTER_FUNCTIONS[phase] ?? "";
 }
 
 /** For whom a lane's task waits behind an event, since when and for what; null where it doesn't. */

@@ -25,13 +25,17 @@ use Rattle.hp_machine.specs.declared.outcome.Outcome.{Outcome}
 use Rattle.hp_machine.specs.declared.outcome.Outcome.TheVariants as outcome
 use Rattle.hp_machine.specs.declared.outcome.Refusal.{Refusal}
 use Rattle.hp_machine.specs.declared.phase.Phase.{Phase}
-use Rattle.hp_words.specs.Linux.{linux_word}
-use Rattle.hp_explain.specs.Happenings.{Happening, texts_of}
+use Rattle.hp_phases.specs.Linux.{linux_word}
+use Rattle.hp_phases.specs.declared.linux.Kernel.TheVariants.{Linux6_18}
+use Rattle.hp_phases.specs.declared.linux.Locks.{Locks}
+use Rattle.hp_watch.specs.Happenings.{Happening}
+use Rattle.hp_watch.specs.Linux.{locks_in}
+use Rattle.hp_explain.specs.Happenings.{texts_of}
 use Rattle.hp_explain.specs.JsonCalls.{at_key, awaited_keys, call_keys, call_keys_at, call_keys_in, change_object, comma_behind}
 use Rattle.hp_explain.specs.JsonCalls.{count_keys, end_of_wait_object, held_keys, holds_key, is_same, owes_key, slot_keys, used_key}
 use Rattle.hp_explain.specs.JsonCalls.{wait_object, waits_key, waits_objects, wanted_keys, wants_key}
-use Rattle.hp_explain.specs.JsonEvents.{answer_keys, by_key, event_key, event_keys, frames_key, number_key, numbers_text}
-use Rattle.hp_explain.specs.JsonEvents.{op_keys, op_word, outcome_key, outcome_keys, phase_keys, place_in, place_of}
+use Rattle.hp_explain.specs.JsonEvents.{answer_keys, by_key, event_key, event_keys, frames_key, linux_key, number_key, numbers_text}
+use Rattle.hp_explain.specs.JsonEvents.{op_keys, op_word, outcome_key, outcome_keys, phase_key, place_in, place_of}
 use Rattle.hp_explain.specs.JsonEvents.{reason_key, task_key}
 use Rattle.hp_explain.specs.JsonObjects.{calls_key, comma_before, end_object, file_keys, file_object, files_key, files_objects, object_text}
 use Rattle.hp_explain.specs.JsonObjects.{objects_text, page_keys, pool_object, quota_key, shown_object, task_keys, task_object, tasks_key}
@@ -91,8 +95,8 @@ signed (negsuc n) = one_more 45 (decimal (suc n)) refl (number (suc n))
 
 -- ---- words
 
-linux_plain : (p : Phase) → Plain (linux_word p)
-linux_plain p = search rules
+linux_plain : (p : Phase) (locks : Locks) → Plain (linux_word Linux6_18 p locks)
+linux_plain p locks = search rules
 
 phase_plain : (p : Phase) → Plain (phase_word p)
 phase_plain p = search rules
@@ -168,15 +172,22 @@ answer_plain answer.BadRange = record { is = refl }
 answer_plain answer.NotMapped = record { is = refl }
 answer_plain answer.NoAddress = record { is = refl }
 
-outcome_plain : (core : CoreState) (e : Event) (o : Outcome) → Plain (outcome_keys core e o)
-unfolding outcome_key by_key number_key reason_key phase_keys
-outcome_plain core e outcome.Begun = record { is = refl }
-outcome_plain core e (outcome.Moved phase) = search (joined, phase_plain, linux_plain, place_in_plain) depth 30
-outcome_plain core e (outcome.Blocked holder) = search (joined, number)
-outcome_plain core e (outcome.Ended answer) = search (joined, answer_plain)
-outcome_plain core e outcome.Marked = record { is = refl }
-outcome_plain core e (outcome.Resized frames) = search (joined, number)
-outcome_plain core e (outcome.Refused refusal) = search (joined, refusal_plain)
+done_plain : (core : CoreState) (column : ℕ) (from : Option Phase) → Plain (linux_key core column from)
+unfolding linux_key
+done_plain core column None = nothing
+done_plain core column (Some from) =
+    joined (codes ",\"linux\":\"") _ (record { is = refl })
+    (joined (linux_word Linux6_18 from (locks_in core column)) (codes "\"") (linux_plain from (locks_in core column)) (record { is = refl }))
+
+outcome_plain : (core : CoreState) (e : Event) (from : Option Phase) (o : Outcome) → Plain (outcome_keys core e from o)
+unfolding outcome_key by_key number_key reason_key phase_key
+outcome_plain core e from outcome.Begun = record { is = refl }
+outcome_plain core e from (outcome.Moved phase) = search (joined, phase_plain, done_plain, place_in_plain) depth 30
+outcome_plain core e from (outcome.Blocked holder) = search (joined, number)
+outcome_plain core e from (outcome.Ended answer) = search (joined, answer_plain)
+outcome_plain core e from outcome.Marked = record { is = refl }
+outcome_plain core e from (outcome.Resized frames) = search (joined, number)
+outcome_plain core e from (outcome.Refused refusal) = search (joined, refusal_plain)
 
 -- ---- calls, counts and waits
 

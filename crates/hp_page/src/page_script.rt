@@ -80,7 +80,7 @@ function sayWaits(at) {
 /** A call in flight: where it stands, and what does in Linux what its next step does. */
 function callCard(standing, isPicked) {
   const { call, phase, holds, wants, owes, begun, task } = standing;
-  const entries = [["at", phase], ["Linux", view.run.functions.get(phase) ?? ""], ["holds", thingWords(holds)], ["wants", thingWords(wants)], ["owes", owes]];
+  const entries = [["at", phase], ["Linux", functionOf(view.run, call.op, phase)], ["holds", thingWords(holds)], ["wants", thingWords(wants)], ["owes", owes]];
   const facts = entries.flatMap(([name, words]) => [element("dt", { textContent: name }), element("dd", { textContent: words })]);
   const title = element("p", {}, element("b", { textContent: `task ${task}` }), ": ", link(callWords(call), begun));
   const card = element("div", { className: isPicked ? "call is-picked" : "call" }, title, element("dl", {}, ...facts));
@@ -116,7 +116,7 @@ function sayRows(at) {
 function sayMore(event) {
   const changeWords = (wait) => (wait.for === null ? `task ${wait.task} waits no more` : waitWords({ ...wait, holder: wait.for, wanted: wait }));
   const words = (event.waits ?? []).map(changeWords);
-  if (event.linux) words.unshift(`next in Linux: ${event.linux}`);
+  if (event.linux) words.unshift(`in Linux: ${event.linux}`);
   $("done").textContent = words.join("; ");
 }
 
@@ -278,7 +278,7 @@ function hover(event) {
   const lane = laneIn(view, y);
   const standing = lane && lane.task > 0 ? standingAt(view.run, lane, at) : null;
   const words = [`line ${lineOf(at)}: ${eventWords(happened)}: ${outcomeWords(happened)}`];
-  if (standing) words.push(`task ${lane.task}: ${callWords(standing.call)} at ${standing.phase} (Linux: ${view.run.functions.get(standing.phase)})`);
+  if (standing) words.push(`task ${lane.task}: ${callWords(standing.call)} at ${standing.phase} (Linux: ${functionOf(view.run, standing.call.op, standing.phase)})`);
   view.canvas.title = words.join("\n");
 }
 

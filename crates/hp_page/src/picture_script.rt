@@ -23,20 +23,13 @@ function readQuery(text) {
   return parts;
 }
 
-/** The codes of the phases that the word names by a function of Linux. */
-function phasesOfFunction(run, word) {
-  const named = [...run.functions].filter(([, linux]) => linux.split(" ").includes(word));
-  return new Set(named.map(([phase]) => run.dictionary.codes.get(phase)));
-}
-
 /** Whether the word stands in the row of an event, as a function of the event. */
 function wordTest(run, word) {
-  const { event, operation, outcome, word: last, waits } = run.columns;
+  const { event, operation, outcome, word: last, linux, waits } = run.columns;
   if (word === "waits") return (at) => waits[at] === 1;
   const code = run.dictionary.codes.get(word);
-  const phases = phasesOfFunction(run, word);
-  if (code === undefined && phases.size === 0) return () => false;
-  return (at) => event[at] === code || operation[at] === code || outcome[at] === code || last[at] === code || phases.has(last[at]);
+  if (code === undefined) return () => false;
+  return (at) => [event, operation, outcome, last, linux].some((column) => column[at] === code);
 }
 
 function partTest(run, part) {

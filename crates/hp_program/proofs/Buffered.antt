@@ -15,6 +15,7 @@ use Rattle.hp_text.specs.Streams.{TellsReads, TellsWrites}
 use Rattle.hp_text.specs.Traces.{trace_text}
 use Rattle.hp_text.specs.Writing.{Wrote}
 use Rattle.hp_program.specs.Endings.{HoldsFront, CutShort, DidReplay}
+use Rattle.hp_program.specs.Output.{Flushed}
 
 -- an empty buffer adds nothing
 pub unbuffered : (known : Option (List ℕ)) → append_known known [] ≡ known
@@ -212,18 +213,18 @@ unless_failed from to old new failures before mid after left r ok err reads writ
 
 -- and where the flush may have failed
 pub did_replay : {E : Type 0} (from to : Option (List ℕ)) (old new failures : ℕ) (start before mid after : Option (List ℕ))
-    (left : List ℕ) (replayed : Result (Unit {0}) ReplayFault) (flushed : Result (Unit {0}) E) (answer : Result (Unit {0}) ReplayFault)
+    (replayed : Result (Unit {0}) ReplayFault) (flushed : Result (Unit {0}) E) (answer : Result (Unit {0}) ReplayFault)
     → start ≡ before → OnOk replayed (Replayed from to start mid) → IfErr replayed (λ fault. Stopped fault from to start mid)
-    → TellsReads replayed old new → TellsWrites replayed 0 failures → Keeps mid (append_known after left)
-    → OnOk flushed (nat_lt 0 failures ≡ false → left ≡ []) → OnOk flushed (answer ≡ replayed) → OnErr flushed (answer ≡ Err Write)
+    → TellsReads replayed old new → TellsWrites replayed 0 failures → Flushed (nat_lt 0 failures) flushed mid after
+    → OnOk flushed (answer ≡ replayed) → OnErr flushed (answer ≡ Err Write)
     → DidReplay answer from to old new before (Some after)
-did_replay from to old new failures start before mid after left replayed (Ok x) answer same ok err reads writes kept empty is not =
+did_replay from to old new failures start before mid after replayed (Ok x) answer same ok err reads writes f is not =
     subst (λ (r : Result (Unit {0}) ReplayFault). DidReplay r from to old new before (Some after)) (sym is)
     (subst (λ (x : Option (List ℕ)). DidReplay replayed from to old new x (Some after)) same
-    (unless_failed from to old new failures start mid after left replayed ok err reads writes kept empty))
-did_replay from to old new failures start before mid after left replayed (Err e) answer same ok err reads writes kept empty is not =
+    (unless_failed from to old new failures start mid after f.left replayed ok err reads writes f.kept f.all))
+did_replay from to old new failures start before mid after replayed (Err e) answer same ok err reads writes f is not =
     subst (λ (r : Result (Unit {0}) ReplayFault). DidReplay r from to old new before (Some after)) (sym not) (
       tt,
       subst (λ (x : Option (List ℕ)). CutShort from to x after) same
-          (cut from to start mid after left (early from to start mid replayed ok err) kept),
+          (cut from to start mid after f.left (early from to start mid replayed ok err) f.kept),
     )

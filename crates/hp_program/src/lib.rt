@@ -1,15 +1,19 @@
-//! What both programs do: a replay from any source to an output that is buffered, and the lines of a fault.
+//! What commands share: an output that is watched, flushed behind what is written, and handed back; what is answered then; a replay; and the
+//! lines of a fault.
 //!
-//! It stands on hp_replay, hp_text and hp_diagnostics. It promises of a replay what `hp_replay::replay` promises, and that all of it has
-//! reached the output unless a write failed; the text of a fault's lines is only tested. It knows no words and no status.
+//! It stands on hp_replay, hp_text and hp_diagnostics. It promises of an output that all of it was written unless a write or the flush
+//! failed (`Output.antt`), and of a replay what `hp_replay::replay` promises; the text of a fault's lines is only tested. It knows no
+//! words of a command line.
 #![tactic(auto)]
 
 mod faults;
 mod flushing;
 mod noted;
 mod replaying;
+mod tracing;
 
 pub use faults::{write_error, write_fault};
-pub use flushing::{flush_unless, flushed_answer};
+pub use flushing::{flush_gathered, flush_plain, flushed_answer, gather};
 pub use noted::Noted;
 pub use replaying::run_replay;
+pub use tracing::text_of;

@@ -2,11 +2,11 @@
 ghost use Rattle.std.specs.Option.{option_map};
 ghost use Rattle.hp_program.specs.Endings.{DidReplay};
 
-use crate::flushing::{flush_unless, flushed_answer};
+use crate::flushing::{flush_gathered, flushed_answer, gather};
 use hp_replay::replay;
-use hp_text::{ReplayFault, Source, Watched};
+use hp_text::{ReplayFault, Source};
 use std::alloc::Global;
-use std::io::{BufWriter, Write};
+use std::io::Write;
 
 /// Replays the trace that the reader gives, and hands the output back, unless it went with a buffer for which there was no memory.
 ///
@@ -19,14 +19,10 @@ pub fn run_replay<R: Source, W: Write + Drop>(
     ensures { DidReplay result.0 (R.remaining reader.old) (R.remaining reader.new) (R.failures reader.old) (R.failures reader.new)
         (W.contents out) (option_map W.contents result.1) }
 {
-    let Ok(buffered) = BufWriter::new(alloc, out) else {
+    let Ok(mut sink) = gather(alloc, out) else {
         return (Err(ReplayFault::Memory), None);
     };
-    let mut sink = Watched::new(buffered);
     let replayed = replay(alloc, reader, &mut sink);
-    let has_failed = sink.has_failed();
-    let mut buffered = sink.into_inner();
-    let flushed = flush_unless(has_failed, &mut buffered);
-    let (out, _left) = buffered.into_parts();
+    let (flushed, out) = flush_gathered(sink);
     (flushed_answer(replayed, flushed), Some(out))
 }

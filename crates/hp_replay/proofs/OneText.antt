@@ -16,7 +16,7 @@ use Rattle.hp_core.specs.Readers.{config_of, free_of, resv_of, used_of, quota_of
 use Rattle.hp_core.specs.Readers.{pages_of, changes_of, spare_of, life_of, mappings_of, entries_of}
 use Rattle.hp_core.specs.Runs.{Row, IsOpening, geometry}
 use Rattle.hp_core.specs.State.{CoreState, as_state}
-use Rattle.hp_explore.proofs.Twins.{Twins, opening_twins, told_same, still_some, same_busy, same_life, same_resv, same_free}
+use Rattle.hp_alike.proofs.Twins.{Twins, opening_twins, told_same, still_some, same_busy, same_life, same_resv, same_free}
 use Rattle.hp_text.specs.Traces.{Spells, trace_text}
 use Rattle.hp_replay.specs.Outcomes.{Run, RunOf, outcomes_text, used_text, pool_line, file_line, task_line, files_text}
 use Rattle.hp_replay.specs.Outcomes.{tasks_text, state_text}

@@ -3,7 +3,7 @@
 //! It stands on hp_core, which runs events, and on hp_text, whose feed reads the lines. It promises that a replay writes
 //! the outcomes of a run of the trace and then its state, that the first bad line is named, and that a fault of a stream is
 //! returned exactly where that stream failed. It knows of the core only its rows and its readers, and no files: it works
-//! over any source and sink. What else is done with traces and scripts it offers from hp_text and hp_explore.
+//! over any source and sink. What else is done with traces it offers from hp_text.
 #![tactic(auto)]
 
 mod laws;
@@ -12,10 +12,6 @@ mod outcomes;
 mod replaying;
 mod state;
 
-pub use hp_explore::{
-    Audit, Chances, Exploration, Finish, RunLine, explore, explore_hostile, schedule,
-    write_explored, write_lines,
-};
 pub use hp_text::{
     MOST_EVENTS, ReplayFault, Script, Sink, Source, Trace, TraceFeed, TraceLine, Watched,
     bytes_have_one_reading, check_trace, pieces_do_not_show, read_script, read_trace,

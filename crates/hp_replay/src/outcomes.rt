@@ -4,44 +4,9 @@ ghost use Rattle.hp_replay.specs.Outcomes.{outcome_line};
 
 use crate::line_buffer::LineBuffer;
 use hp_base::{Answer, Task};
-use hp_machine::{Outcome, Phase, Refusal};
+use hp_machine::{Outcome, Refusal};
+use hp_phases::moved_line;
 use std::alloc::AllocError;
-
-// The line of a move to a phase.
-#[inline(always)]
-fn moved_line(phase: Phase) -> &'static [u8]
-    ensures { result.now ≡ outcome_line (Outcome.Moved phase) }
-{
-    match phase {
-        Phase::Start => b"moved start\n",
-        Phase::Look => b"moved look\n",
-        Phase::Want => b"moved want\n",
-        Phase::Locked => b"moved locked\n",
-        Phase::Missing => b"moved missing\n",
-        Phase::Changed => b"moved changed\n",
-        Phase::Abort => b"moved abort\n",
-        Phase::Taken => b"moved taken\n",
-        Phase::Settle => b"moved settle\n",
-        Phase::Committed => b"moved committed\n",
-        Phase::Restore => b"moved restore\n",
-        Phase::Found => b"moved found\n",
-        Phase::Leave => b"moved leave\n",
-        Phase::Room => b"moved room\n",
-        Phase::Accounted => b"moved accounted\n",
-        Phase::Enter => b"moved enter\n",
-        Phase::Head => b"moved head\n",
-        Phase::Unslot => b"moved unslot\n",
-        Phase::Extend => b"moved extend\n",
-        Phase::Unmap => b"moved unmap\n",
-        Phase::Evict => b"moved evict\n",
-        Phase::Delete => b"moved delete\n",
-        Phase::Free => b"moved free\n",
-        Phase::Size => b"moved size\n",
-        Phase::Tail => b"moved tail\n",
-        Phase::Clear => b"moved clear\n",
-        Phase::Drop => b"moved drop\n",
-    }
-}
 
 // The line of an end, where its answer has no number.
 #[inline(always)]

@@ -1,10 +1,11 @@
 //! Explored runs of scripts, and checked traces, with the lines that the tables tell.
 use crate::texts::{add_lines, checked, is_written, replayed};
 use hp_base::{Event, Task};
-use hp_replay::{
-    Audit, Chances, Exploration, Finish, ReplayFault, RunLine, Script, Trace, Watched, explore,
-    explore_hostile, read_script, schedule, write_count, write_explored, write_lines,
+use hp_explore::{
+    Audit, Chances, Exploration, Finish, RunLine, explore, explore_hostile, schedule,
+    write_explored, write_lines,
 };
+use hp_replay::{ReplayFault, Script, Trace, Watched, read_script, write_count};
 use std::alloc::Global;
 use std::process::Abort;
 use std::test::Fail;

@@ -1,9 +1,9 @@
 //! Writers that break.
 use crate::sample_texts::{EXPLORED, REPLAYED, SCRIPT, TRACE};
 use crate::streams::{Break, SmallWriter};
+use hp_explore::{Audit, Chances, Exploration, Finish, RunLine, write_explored, write_lines};
 use hp_replay::{
-    Audit, Chances, Exploration, Finish, ReplayFault, RunLine, Watched, read_script, read_trace,
-    replay, write_count, write_explored, write_lines, write_text, write_trace,
+    ReplayFault, Watched, read_script, read_trace, replay, write_count, write_text, write_trace,
 };
 use std::alloc::{AllocError, Global};
 use std::io::ErrorKind;

@@ -1,6 +1,6 @@
 -- What numbers name: read back, each event, outcome, phase and refusal is the one that was written.
-use Rattle.std.proofs.Common.{◌≡◌, ◌∙◌, ℕ, ap, refl, sym}
-use Rattle.std.specs.Prelude.{◌==◌, true, false, Option, Some, None, if◌then◌else◌}
+use Rattle.std.proofs.Common.{◌≡◌, ◌∙◌, ◌-◌, ℕ, ap, arith, refl, sym}
+use Rattle.std.specs.Prelude.{◌==◌, true, false, Option, Some, None, if◌then◌else◌, slice_index_or}
 use Rattle.std.specs.Option.{option_map}
 use Rattle.hp_base.specs.declared.event.Op.TheVariants as op
 use Rattle.hp_base.specs.declared.event.Event.{Event}
@@ -13,8 +13,10 @@ use Rattle.hp_machine.specs.declared.outcome.Refusal.{Refusal}
 use Rattle.hp_machine.specs.declared.outcome.Refusal.TheVariants as refusal
 use Rattle.hp_machine.specs.declared.phase.Phase.{Phase}
 use Rattle.hp_machine.specs.declared.phase.Phase.TheVariants as phase
+use Rattle.hp_phases.specs.Phases.{all_phases, phase_number, place_of}
+use Rattle.hp_phases.proofs.Places.{there}
 use Rattle.hp_words.specs.declared.outcome_words.OutcomeWords.{OutcomeWords}
-use Rattle.hp_words.specs.Words.{event_named, event_words, outcome_words, phase_number, refusal_number}
+use Rattle.hp_words.specs.Words.{event_named, event_words, outcome_words, refusal_number}
 
 -- what is read back as it was written is written as nothing else is
 own : {A B : Type 0} (write : A → B) (read : B → Option A) → ((a : A) → read (write a) ≡ Some a)
@@ -46,74 +48,13 @@ events_own = own event_words event_named named
 
 -- ---- phases and refusals
 
-abbrev phase_numbered : ℕ → Option Phase
-phase_numbered n =
-    if n == 1 then Some phase.Start
-    else if n == 2 then Some phase.Look
-    else if n == 3 then Some phase.Want
-    else if n == 4 then Some phase.Locked
-    else if n == 5 then Some phase.Missing
-    else if n == 6 then Some phase.Changed
-    else if n == 7 then Some phase.Abort
-    else if n == 8 then Some phase.Taken
-    else if n == 9 then Some phase.Settle
-    else if n == 10 then Some phase.Committed
-    else if n == 11 then Some phase.Restore
-    else if n == 12 then Some phase.Found
-    else if n == 13 then Some phase.Leave
-    else if n == 14 then Some phase.Room
-    else if n == 15 then Some phase.Accounted
-    else if n == 16 then Some phase.Enter
-    else if n == 17 then Some phase.Head
-    else if n == 18 then Some phase.Unslot
-    else if n == 19 then Some phase.Extend
-    else if n == 20 then Some phase.Unmap
-    else if n == 21 then Some phase.Evict
-    else if n == 22 then Some phase.Delete
-    else if n == 23 then Some phase.Free
-    else if n == 24 then Some phase.Size
-    else if n == 25 then Some phase.Tail
-    else if n == 26 then Some phase.Clear
-    else if n == 27 then Some phase.Drop
-    else None
+abbrev phase_numbered : ℕ → Phase
+phase_numbered n = slice_index_or all_phases (n - 1) phase.Start
 
-phase_back : (p : Phase) → phase_numbered (phase_number p) ≡ Some p
-phase_back phase.Start = refl
-phase_back phase.Look = refl
-phase_back phase.Want = refl
-phase_back phase.Locked = refl
-phase_back phase.Missing = refl
-phase_back phase.Changed = refl
-phase_back phase.Abort = refl
-phase_back phase.Taken = refl
-phase_back phase.Settle = refl
-phase_back phase.Committed = refl
-phase_back phase.Restore = refl
-phase_back phase.Found = refl
-phase_back phase.Leave = refl
-phase_back phase.Room = refl
-phase_back phase.Accounted = refl
-phase_back phase.Enter = refl
-phase_back phase.Head = refl
-phase_back phase.Unslot = refl
-phase_back phase.Extend = refl
-phase_back phase.Unmap = refl
-phase_back phase.Evict = refl
-phase_back phase.Delete = refl
-phase_back phase.Free = refl
-phase_back phase.Size = refl
-phase_back phase.Tail = refl
-phase_back phase.Clear = refl
-phase_back phase.Drop = refl
-
-pub phases_own : (some other : Phase) → phase_number some ≡ phase_number other → some ≡ other
-phases_own = own phase_number phase_numbered phase_back
-
--- 0 is the number of none
-pub phases_there : (p : Phase) → phase_number p ≡ 0 → ⊥
-phases_there p e =
-    let none : Some p ≡ None = sym (phase_back p) ∙ ap phase_numbered e in
-    cc
+phase_back : (p : Phase) → phase_numbered (phase_number p) ≡ p
+phase_back p =
+    let back : phase_number p - 1 ≡ place_of p = omega arith in
+    ap (λ (k : ℕ). slice_index_or all_phases k phase.Start) back ∙ (there p).1
 
 abbrev refusal_numbered : ℕ → Option Refusal
 refusal_numbered n =
@@ -155,7 +96,7 @@ answer_of o =
 abbrev outcome_of : OutcomeWords → Option Outcome
 outcome_of o =
     if o.kind == 0 then Some outcome.Begun
-    else if o.kind == 1 then option_map outcome.Moved (phase_numbered o.phase)
+    else if o.kind == 1 then Some (outcome.Moved (phase_numbered o.phase))
     else if o.kind == 2 then Some (outcome.Blocked o.task)
     else if o.kind == 3 then option_map outcome.Ended (answer_of o)
     else if o.kind == 4 then Some outcome.Marked
@@ -165,7 +106,7 @@ outcome_of o =
 
 outcome_back : (o : Outcome) → outcome_of (outcome_words o) ≡ Some o
 outcome_back outcome.Begun = refl
-outcome_back (outcome.Moved p) = ap (option_map outcome.Moved) (phase_back p)
+outcome_back (outcome.Moved p) = ap (λ (q : Phase). Some (outcome.Moved q)) (phase_back p)
 outcome_back (outcome.Blocked t) = refl
 outcome_back (outcome.Ended (answer.Mapped b)) = refl
 outcome_back (outcome.Ended (answer.Word w)) = refl

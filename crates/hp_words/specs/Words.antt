@@ -14,8 +14,7 @@ use Rattle.hp_machine.specs.declared.outcome.Outcome.{Outcome}
 use Rattle.hp_machine.specs.declared.outcome.Outcome.TheVariants as outcome
 use Rattle.hp_machine.specs.declared.outcome.Refusal.{Refusal}
 use Rattle.hp_machine.specs.declared.outcome.Refusal.TheVariants as refusal
-use Rattle.hp_machine.specs.declared.phase.Phase.{Phase}
-use Rattle.hp_machine.specs.declared.phase.Phase.TheVariants as phase
+use Rattle.hp_phases.specs.Phases.{phase_number}
 use Rattle.hp_words.specs.declared.config_words.ConfigWords.{ConfigWords}
 use Rattle.hp_words.specs.declared.event_words.EventWords.{EventWords}
 use Rattle.hp_words.specs.declared.outcome_words.OutcomeWords.{OutcomeWords}
@@ -91,36 +90,6 @@ event_words (Resize frames) = record (no_event 4 0) { len = frames }
 -- all of it 0, but for the kind
 abbrev pub no_outcome : (kind : ℕ) → OutcomeWords
 no_outcome kind = record { word = 0; kind = kind; phase = 0; task = 0; answer = 0; page = 0; frames = 0; refusal = 0 }
-
--- a phase, counted from 1
-abbrev pub phase_number : Phase → ℕ
-phase_number phase.Start = 1
-phase_number phase.Look = 2
-phase_number phase.Want = 3
-phase_number phase.Locked = 4
-phase_number phase.Missing = 5
-phase_number phase.Changed = 6
-phase_number phase.Abort = 7
-phase_number phase.Taken = 8
-phase_number phase.Settle = 9
-phase_number phase.Committed = 10
-phase_number phase.Restore = 11
-phase_number phase.Found = 12
-phase_number phase.Leave = 13
-phase_number phase.Room = 14
-phase_number phase.Accounted = 15
-phase_number phase.Enter = 16
-phase_number phase.Head = 17
-phase_number phase.Unslot = 18
-phase_number phase.Extend = 19
-phase_number phase.Unmap = 20
-phase_number phase.Evict = 21
-phase_number phase.Delete = 22
-phase_number phase.Free = 23
-phase_number phase.Size = 24
-phase_number phase.Tail = 25
-phase_number phase.Clear = 26
-phase_number phase.Drop = 27
 
 -- why an event was refused, counted from 1
 abbrev pub refusal_number : Refusal → ℕ

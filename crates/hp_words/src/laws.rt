@@ -3,8 +3,7 @@ ghost use Rattle.std.specs.Prelude.{◌≡◌, Some};
 ghost use Rattle.hp_base.specs.declared.event.Event.{Event};
 ghost use Rattle.hp_machine.specs.declared.outcome.Outcome.{Outcome};
 ghost use Rattle.hp_machine.specs.declared.outcome.Refusal.{Refusal};
-ghost use Rattle.hp_machine.specs.declared.phase.Phase.{Phase};
-ghost use Rattle.hp_words.specs.Words.{event_named, event_words, outcome_words, phase_number, refusal_number};
+ghost use Rattle.hp_words.specs.Words.{event_named, event_words, outcome_words, refusal_number};
 
 /// Each event has numbers that name it.
 pub fn each_event_is_named()
@@ -19,12 +18,6 @@ pub fn events_have_their_own_words()
 /// Different outcomes have different numbers.
 pub fn outcomes_have_their_own_words()
     ensures { (some other : Outcome) → outcome_words some ≡ outcome_words other → some ≡ other }
-{}
-
-/// Different phases have different numbers, none of which is 0.
-pub fn phases_have_their_own_numbers()
-    ensures own { (some other : Phase) → phase_number some ≡ phase_number other → some ≡ other }
-    ensures there { (phase : Phase) → (phase_number phase ≡ 0) → ⊥ }
 {}
 
 /// Different refusals have different numbers.

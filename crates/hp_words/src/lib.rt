@@ -1,17 +1,15 @@
 //! Configs, events and outcomes as plain numbers, for callers that have none of our enums.
 //!
-//! It stands on hp_base and hp_machine. Numbers name a config or an event, or name nothing; an outcome is written in numbers of its own.
+//! It stands on hp_base and hp_machine, and on hp_phases for the numbers of phases. Numbers name a config or an event, or name nothing;
+//! an outcome is written in numbers of its own.
 //! Each struct has C's layout (`#[repr(C)]`), and each number stands in `specs/Words.antt`.
-//! Beside them it has Linux's name of what each phase does (`specs/Linux.antt`).
 #![tactic(auto)]
 
 pub mod config_words;
 pub mod event_words;
 pub mod laws;
-mod linux;
 pub mod outcome_words;
 
 pub use config_words::ConfigWords;
 pub use event_words::EventWords;
-pub use linux::linux_name;
 pub use outcome_words::OutcomeWords;

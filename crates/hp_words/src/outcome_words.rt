@@ -1,9 +1,10 @@
 //! An outcome as numbers.
 ghost use Rattle.std.specs.Prelude.{◌≡◌, ◌↔◌, IsTrue};
-ghost use Rattle.hp_words.specs.Words.{IsHeldBack, answered, life_number, no_outcome, outcome_words, phase_number, refusal_number};
+ghost use Rattle.hp_words.specs.Words.{IsHeldBack, answered, life_number, no_outcome, outcome_words, refusal_number};
 
 use hp_base::Answer;
-use hp_machine::{Life, Outcome, Phase, Refusal};
+use hp_machine::{Life, Outcome, Refusal};
+use hp_phases::phase_number;
 
 /// What came of an event. `kind` says which outcome it is; `phase`, `task`, `answer`, `frames` or `refusal` what it names, and `page` or
 /// `word` what its answer names. All else is 0.
@@ -33,41 +34,6 @@ fn no_outcome(kind: u32) -> OutcomeWords
         page: 0,
         frames: 0,
         refusal: 0,
-    }
-}
-
-/// The number of a phase, counted from 1.
-pub fn phase_number(phase: Phase) -> u32
-    ensures { result ≡ phase_number phase }
-{
-    match phase {
-        Phase::Start => 1,
-        Phase::Look => 2,
-        Phase::Want => 3,
-        Phase::Locked => 4,
-        Phase::Missing => 5,
-        Phase::Changed => 6,
-        Phase::Abort => 7,
-        Phase::Taken => 8,
-        Phase::Settle => 9,
-        Phase::Committed => 10,
-        Phase::Restore => 11,
-        Phase::Found => 12,
-        Phase::Leave => 13,
-        Phase::Room => 14,
-        Phase::Accounted => 15,
-        Phase::Enter => 16,
-        Phase::Head => 17,
-        Phase::Unslot => 18,
-        Phase::Extend => 19,
-        Phase::Unmap => 20,
-        Phase::Evict => 21,
-        Phase::Delete => 22,
-        Phase::Free => 23,
-        Phase::Size => 24,
-        Phase::Tail => 25,
-        Phase::Clear => 26,
-        Phase::Drop => 27,
     }
 }
 

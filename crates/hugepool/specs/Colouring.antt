@@ -1,14 +1,14 @@
 -- Which words are coloured at each request, and when.
 use Rattle.std.specs.Prelude.{◌&&◌, Bool, true, false, not, Option, Some, None}
 use Rattle.hugepool.specs.declared.colouring.Surroundings.{Surroundings}
-use Rattle.hugepool.specs.declared.colouring.When.{When}
-use Rattle.hugepool.specs.declared.colouring.When.TheVariants.{Auto, Always, Never}
-use Rattle.hugepool.specs.declared.command.Request.{Request}
-use Rattle.hugepool.specs.declared.command.Request.TheVariants as request
-use Rattle.hugepool.specs.declared.palette.Palette.{Palette}
-use Rattle.hugepool.specs.declared.palette.Palette.TheVariants.{Outcomes, Runs, Races, Work}
-use Rattle.hugepool.specs.declared.racing.Racing.{Racing}
-use Rattle.hugepool.specs.declared.racing.Racing.TheVariants as racing
+use Rattle.hp_command.specs.declared.request.When.{When}
+use Rattle.hp_command.specs.declared.request.When.TheVariants.{Auto, Always, Never}
+use Rattle.hp_command.specs.declared.request.Request.{Request}
+use Rattle.hp_command.specs.declared.request.Request.TheVariants as request
+use Rattle.hp_paint.specs.declared.palette.Palette.{Palette}
+use Rattle.hp_paint.specs.declared.palette.Palette.TheVariants.{Outcomes, Runs, Races, Work}
+use Rattle.hp_command.specs.declared.request.Racing.{Racing}
+use Rattle.hp_command.specs.declared.request.Racing.TheVariants as racing
 
 -- lines of races have words to be coloured, and the trace of one has none
 abbrev pub palette_of_racing : Racing → Option Palette
@@ -31,8 +31,8 @@ palette_of (request.Minimize conditions) = None
 palette_of request.Format = None
 palette_of request.Step = Some Outcomes
 palette_of (request.Race r) = palette_of_racing r
-palette_of (request.Work words) = Some Work
-palette_of (request.TraceWork words) = None
+palette_of (request.Work name driver) = Some Work
+palette_of (request.TraceWork name driver) = None
 
 -- by itself at a terminal, unless the environment is against it
 abbrev pub paints : When → Surroundings → Bool

@@ -1,13 +1,4 @@
-pub mod Endings
-pub mod Formatting
-pub mod Hunting
-pub mod Racing
+pub mod Colouring
 pub mod Requests
 pub mod Status
-pub mod Summing
 pub mod Words
-pub mod Working
-pub mod Stepping
-pub mod Colouring
-pub mod Painting
-pub mod Palettes

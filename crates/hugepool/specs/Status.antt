@@ -1,14 +1,13 @@
--- The status that the program ends with.
+-- The status with which the program ends.
 use Rattle.std.specs.Prelude.{ℕ, Result, Ok, Err}
-use Rattle.hugepool.specs.declared.program.Stop.{Stop}
-use Rattle.hugepool.specs.declared.program.Stop.TheVariants.{Usage, Replay, Work, Missed, Loose, Unfinished}
-use Rattle.hugepool.specs.Working.{work_status}
+use Rattle.hugepool.specs.declared.stop.Stop.{Stop}
+use Rattle.hugepool.specs.declared.stop.Stop.TheVariants.{Usage, Replay, Work, Missed, Loose}
+use Rattle.hp_pool_commands.specs.Working.{work_status}
 
--- 2 where the words ask for nothing, 1 after a fault, or where a run didn't finish, or where nothing meets the conditions
+-- 2 where the words ask for nothing; 1 after a fault, where a run didn't come to its end, and where nothing meets the conditions
 abbrev pub status_of : Stop → ℕ
 status_of (Usage error) = 2
 status_of (Replay fault) = 1
-status_of Unfinished = 1
 status_of (Work fault) = work_status fault
 status_of (Missed what) = 1
 status_of (Loose fault) = 1

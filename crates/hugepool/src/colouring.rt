@@ -2,32 +2,11 @@
 ghost use Rattle.std.specs.Prelude.{◌≡◌};
 ghost use Rattle.hugepool.specs.Colouring.{palette_of, paints};
 
-use crate::command::{Request, read_colouring};
-use crate::palette::Palette;
-use crate::racing::Racing;
-use clap::{Arg, ArgAction};
-use std::alloc::Global;
-use std::convert::AsStr;
+use hp_command::{Asked, Racing, Request, When};
+use hp_paint::Palette;
 use std::env;
 use std::env::VarError;
 use std::io::IsTerminal;
-
-/// When words are coloured.
-#[derive(Clone, Copy, Debug, PartialEq, Eq)]
-pub(crate) enum When {
-    /// At a terminal, unless the environment is against it.
-    Auto,
-    Always,
-    Never,
-}
-
-/// What the words of the command line say of colours.
-#[derive(Clone, Copy, Debug)]
-pub(crate) struct Colouring {
-    pub(crate) when: When,
-    /// None where the output has no words to be coloured.
-    pub(crate) palette: Option<Palette>,
-}
 
 /// What is known of standard output and its terminal.
 #[derive(Clone, Copy, Debug)]
@@ -39,30 +18,8 @@ struct Surroundings {
     is_dumb: bool,
 }
 
-const NAMES: &[&str] = &["auto", "always", "never"];
-
-/// What a value of `--color` asks for. clap lets no other name through.
-pub(crate) fn when_named(name: &str) -> When {
-    match name {
-        "always" => When::Always,
-        "never" => When::Never,
-        _ => When::Auto,
-    }
-}
-
-/// The option of the commands that print outcomes.
-pub(crate) fn color_option<'a>(alloc: Global) -> Arg<'a> {
-    Arg::new(alloc, "color")
-        .long("color")
-        .value_name("WHEN")
-        .action(ArgAction::Set)
-        .default_value("auto")
-        .value_parser(NAMES)
-        .help("Colours words of failure and waiting; JSON and traces stay plain")
-}
-
-/// The words that are coloured in what is written at a request, if any are.
-pub(crate) fn palette_of(request: &Request) -> Option<Palette>
+// The words that are coloured in what is written at a request, if any are.
+fn palette_of(request: &Request) -> Option<Palette>
     ensures { result ≡ palette_of request.now }
 {
     match request {
@@ -71,7 +28,7 @@ pub(crate) fn palette_of(request: &Request) -> Option<Palette>
         }
         Request::Explore(_) => Some(Palette::Runs),
         Request::Race(Racing::Times { .. }) => Some(Palette::Races),
-        Request::Work(_) => Some(Palette::Work),
+        Request::Work { .. } => Some(Palette::Work),
         Request::Race(Racing::Trace { .. })
         | Request::Check
         | Request::ExplainJson(_)
@@ -81,7 +38,7 @@ pub(crate) fn palette_of(request: &Request) -> Option<Palette>
         | Request::Find(_)
         | Request::Minimize(_)
         | Request::Format
-        | Request::TraceWork(_) => None,
+        | Request::TraceWork { .. } => None,
     }
 }
 
@@ -121,23 +78,13 @@ fn look_around(rt: &HostRuntime) -> Surroundings {
     }
 }
 
-// Whether a word of the command line may ask for colours.
-fn asks_for_colours<S: AsStr>(words: &[S]) -> bool {
-    words
-        .iter()
-        .any(|word| word.as_str().starts_with("--color"))
-}
-
-/// The words that are coloured in what the command line asks for, if any are. If it asks for nothing, none are.
-pub(crate) fn chosen_palette<S: AsStr>(rt: &HostRuntime, words: &[S]) -> Option<Palette> {
-    let around = look_around(rt);
-    if !around.is_terminal && !asks_for_colours(words) {
-        return None;
-    }
-    let colouring = read_colouring(rt.alloc(), words)?;
-    if paints(colouring.when, around) {
-        colouring.palette
-    } else {
-        None
+/// The words that are coloured in what is asked for, if any are. If nothing is, none are.
+pub(crate) fn chosen_palette(
+    rt: &HostRuntime,
+    asked: &Result<Asked, clap::Error>,
+) -> Option<Palette> {
+    match asked {
+        Ok(asked) if paints(asked.colours, look_around(rt)) => palette_of(&asked.request),
+        _ => None,
     }
 }

@@ -1,5 +1,5 @@
 //! Hints on standard error: what else would serve.
-use crate::program::Stop;
+use crate::stop::Stop;
 use hp_base::{Event, Op};
 use hp_diagnostics::{Line, Recalls};
 use hp_format::{asked_of, tidy};

@@ -1,6 +1,5 @@
 //! What a command reads: standard input, or the file that its words name.
-use crate::command::{Named, named_file};
-use std::convert::AsStr;
+use hp_command::{Asked, Input};
 use std::fs::File;
 use std::io;
 use std::io::{IsTerminal, Read, Stdin, Write};
@@ -10,35 +9,34 @@ const TERMINAL: &[u8] =
 
 /// What is read.
 #[derive(Drop)]
-pub(crate) enum Input {
+pub(crate) enum Opened {
     Standard(Stdin),
     File(File),
 }
 
-impl Read for Input {
+impl Read for Opened {
     fn read(&mut self, buf: &mut [u8]) -> io::Result<usize> {
         match self {
-            Input::Standard(stdin) => stdin.read(buf),
-            Input::File(file) => file.read(buf),
+            Opened::Standard(stdin) => stdin.read(buf),
+            Opened::File(file) => file.read(buf),
         }
     }
 }
 
-/// What the words ask to be read. A file of the name `-` is standard input, too. If there is no memory for the words, or the file can't
-/// be opened, that is reported, and there is none.
-pub(crate) fn open_input<S: AsStr>(
+/// What is asked for is opened. A file of the name `-` is standard input, too. If the file can't be opened, that is reported, and there
+/// is none.
+pub(crate) fn open_input(
     rt: &HostRuntime,
-    words: &[S],
+    asked: &Result<Asked, clap::Error>,
     faults: &mut impl Write,
-) -> Option<Input> {
-    match named_file(rt.alloc(), words) {
-        Ok(Named::File(path)) if path.as_str() != "-" => open_file(rt, path.as_str(), faults),
-        Ok(Named::File(_) | Named::Standard) => Some(Input::Standard(standard(rt, faults))),
-        Ok(Named::Nothing) => Some(Input::Standard(rt.stdin())),
-        Err(_) => {
-            let _ = faults.write_all(b"hugepool: out of memory\n");
-            None
-        }
+) -> Option<Opened> {
+    let Ok(asked) = asked else {
+        return Some(Opened::Standard(rt.stdin()));
+    };
+    match &asked.input {
+        Input::File(path) if path.as_str() != "-" => open_file(rt, path.as_str(), faults),
+        Input::File(_) | Input::Standard => Some(Opened::Standard(standard(rt, faults))),
+        Input::Nothing => Some(Opened::Standard(rt.stdin())),
     }
 }
 
@@ -52,9 +50,9 @@ fn standard(rt: &HostRuntime, faults: &mut impl Write) -> Stdin {
 }
 
 // The file of that name.
-fn open_file(rt: &HostRuntime, path: &str, faults: &mut impl Write) -> Option<Input> {
+fn open_file(rt: &HostRuntime, path: &str, faults: &mut impl Write) -> Option<Opened> {
     match File::open(rt, path) {
-        Ok(file) => Some(Input::File(file)),
+        Ok(file) => Some(Opened::File(file)),
         Err(error) => {
             let _ = writeln!(faults, "hugepool: {path}: {error}");
             None

@@ -1,124 +1,69 @@
-//! What the program does, over any words and streams.
-ghost use Rattle.std.specs.Prelude.{◌≡◌, ◌≢◌, Some, Ok, Err, Result, true, false, IsOk, OnErr, OnOk, IfOk, IfErr};
-ghost use Rattle.std.specs.Io.KnownBytes.{Keeps};
+//! What the program does, over any streams.
+ghost use Rattle.std.specs.Prelude.{◌≡◌, ◌≢◌};
 ghost use Rattle.std.specs.Option.{option_map};
 ghost use Rattle.clap.specs.Values.{kind_of};
-ghost use Rattle.hugepool.specs.Endings.{AnsweredNone, IsRefusal};
-ghost use Rattle.clap.specs.declared.error.Error.{Error};
-ghost use Rattle.hugepool.specs.Requests.{Answered, EndsAsAsked, EndsWith};
-ghost use Rattle.hugepool.specs.Status.{status_of, status_at};
+ghost use Rattle.hp_program.specs.Answers.{status_of_runs, status_of_text};
+ghost use Rattle.hugepool.specs.Requests.{AnsweredHelp, Ends, EndsAsAsked, EndsUnasked};
+ghost use Rattle.hugepool.specs.Status.{status_at, status_of};
 
-use crate::checking::run_check;
-use crate::command::{Request, read_words};
-use crate::drawing::run_draw;
-use crate::explaining::run_explain;
-use crate::exploring::run_explore;
-use crate::finding::run_find;
-use crate::formatting::run_format;
 use crate::hinting::{hint_format, hint_script};
-use crate::minimizing::run_minimize;
-use crate::objects::run_explain_json;
-use crate::paging::run_page;
-use crate::progress::Report;
-use crate::racing::run_race;
-use crate::scheduling::run_schedule;
-use crate::stepping::run_step;
-use crate::summarizing::run_summarize;
-use crate::working::{WorkFault, run_trace_work, run_work};
+use crate::stop::{Missed, Stop, stop_of_format, stop_of_runs, stop_of_text, stop_of_work};
 use clap::error::ErrorKind;
+use hp_command::{Asked, Request};
 use hp_diagnostics::Recalls;
-use hp_format::LooseFault;
+use hp_pool_commands::{WorkWords, run_step, run_trace_work, run_work};
 use hp_program::{run_replay, write_fault};
+use hp_script_commands::{
+    Report, run_explore, run_find, run_minimize, run_race, run_schedule, run_summarize,
+};
 use hp_text::{ReplayFault, Source};
+use hp_trace_commands::{run_check, run_draw, run_explain, run_explain_json, run_format, run_page};
 use std::alloc::Global;
-use std::convert::AsStr;
 use std::io;
 use std::io::Write;
 use std::rt::Files;
 use std::sync::Wait;
 use std::thread::Threads;
 use std::time::Clock;
-use thiserror::Error;
 
-/// Why the program ends with another status than 0.
-#[derive(Debug, Drop, Error)]
-pub(crate) enum Stop {
-    #[error("{0}")]
-    Usage(clap::Error),
-    #[error("{0}")]
-    Replay(ReplayFault),
-    /// A run didn't finish. Its line says so.
-    #[error("")]
-    Unfinished,
-    #[error("{0}")]
-    Work(WorkFault),
-    #[error("{0}")]
-    Missed(Missed),
-    #[error("hugepool: {0}\n")]
-    Loose(LooseFault),
-}
-
-/// What doesn't meet the conditions.
-#[derive(Clone, Copy, Debug, PartialEq, Eq, Error)]
-pub(crate) enum Missed {
-    /// None of so many runs does.
-    #[error("hugepool: no run meets all conditions (runs explored: {0})\n")]
-    Runs(u32),
-    #[error("hugepool: the trace doesn't meet all conditions\n")]
-    Trace,
-}
-
-impl Stop {
-    fn status(&self) -> u8
-        ensures { result ≡ status_of self.now }
-    {
-        match self {
-            Stop::Usage(_) => 2,
-            Stop::Replay(_) | Stop::Unfinished | Stop::Missed(_) | Stop::Loose(_) => 1,
-            Stop::Work(fault) => fault.status(),
-        }
-    }
-}
-
-/// Reads the words, does what they ask for on these streams, and returns the status: 0 where it was done, 1 after a fault, 2 where
-/// they ask for nothing. A fault is one line on `faults`, and behind that of a line what is wrong with it, where the reader recalls
-/// the line. The output is handed back, unless it went with a buffer for which there was no memory.
+/// Does on these streams what is asked for, and returns the status: 0 where it was done, 1 after a fault, 2 where nothing is asked for.
+/// A fault is one line on `faults`, and behind that of a line what is wrong with it, where the reader recalls the line. The output is
+/// handed back, unless it went with a buffer for which there was no memory.
 pub(crate) fn program<
     H: Clock + Files + Threads + Wait + Sync,
-    S: AsStr,
     R: Source + Recalls,
     W: Write + Drop,
 >(
     rt: &H,
     alloc: Global,
-    words: &[S],
+    asked: Result<Asked, clap::Error>,
     reader: &mut R,
     out: W,
     faults: &mut impl Report,
 ) -> (u8, Option<W>)
-    ensures { (asked : Result Request Error) × EndsAsAsked asked result.0 (R.remaining reader.old) (R.remaining reader.new)
-        (R.failures reader.old) (R.failures reader.new) (W.contents out) (option_map W.contents result.1) }
+    ensures { EndsAsAsked asked result.0 (R.remaining reader.old) (R.remaining reader.new) (R.failures reader.old)
+        (R.failures reader.new) (W.contents out) (option_map W.contents result.1) }
 {
-    let asked = read_words(alloc, words);
-    carry_out(rt, alloc, asked, reader, out, faults)
+    match asked {
+        Ok(asked) => carry_out(rt, alloc, asked.request, reader, out, faults),
+        Err(error) => refuse(error, &*reader, out, faults),
+    }
 }
 
-// Does what the words were read as.
+// Does what is asked for.
 fn carry_out<H: Clock + Files + Threads + Wait + Sync, R: Source + Recalls, W: Write + Drop>(
     rt: &H,
     alloc: Global,
-    asked: Result<Request, clap::Error>,
+    request: Request,
     reader: &mut R,
     out: W,
     faults: &mut impl Report,
 ) -> (u8, Option<W>)
-    ensures asked { IfOk asked (λ request. EndsWith result.0 (λ answer. Answered request answer (R.remaining reader.old)
-        (R.remaining reader.new) (R.failures reader.old) (R.failures reader.new) (W.contents out) (option_map W.contents result.1))) }
-    ensures none { IfErr asked (λ error. EndsWith result.0 (λ answer. AnsweredNone error answer (R.remaining reader.old)
-        (R.remaining reader.new) (R.failures reader.old) (R.failures reader.new) (W.contents out) (option_map W.contents result.1))) }
+    ensures { Ends request result.0 (R.remaining reader.old) (R.remaining reader.new) (R.failures reader.old)
+        (R.failures reader.new) (W.contents out) (option_map W.contents result.1) }
 {
-    let (reads_trace, shows_run) = (reads_trace(&asked), shows_run(&asked));
-    let (answer, out) = answer(rt, alloc, asked, reader, out, faults);
+    let (reads_trace, shows_run) = (reads_trace(&request), shows_run(&request));
+    let (answer, out) = answer(rt, alloc, request, reader, out, faults);
     let status = end(&answer, &*reader, faults);
     if reads_trace {
         hint_format(alloc, &answer, &*reader, faults);
@@ -130,26 +75,24 @@ fn carry_out<H: Clock + Files + Threads + Wait + Sync, R: Source + Recalls, W: W
 }
 
 // Whether a strict trace is read.
-fn reads_trace(asked: &Result<Request, clap::Error>) -> bool {
+fn reads_trace(request: &Request) -> bool {
     matches!(
-        asked,
-        Ok(
-            Request::Replay
-                | Request::Check
-                | Request::Explain(_)
-                | Request::ExplainJson(_)
-                | Request::Draw
-                | Request::Page
-                | Request::Minimize(_)
-        )
+        request,
+        Request::Replay
+            | Request::Check
+            | Request::Explain(_)
+            | Request::ExplainJson(_)
+            | Request::Draw
+            | Request::Page
+            | Request::Minimize(_)
     )
 }
 
 // Whether it is shown how a trace runs.
-fn shows_run(asked: &Result<Request, clap::Error>) -> bool {
+fn shows_run(request: &Request) -> bool {
     matches!(
-        asked,
-        Ok(Request::Replay | Request::Explain(_) | Request::Draw | Request::Page)
+        request,
+        Request::Replay | Request::Explain(_) | Request::Draw | Request::Page
     )
 }
 
@@ -174,95 +117,107 @@ fn tell<R: Recalls>(stop: &Stop, reader: &R, faults: &mut impl Write) -> io::Res
     }
 }
 
-// What is answered to what the words were read as.
+// What a command that writes a text answers, and its output.
+fn text<W>(ran: (Result<(), ReplayFault>, Option<W>)) -> (Result<(), Stop>, Option<W>)
+    ensures stop { status_at result.0 ≡ status_of_text ran.0 }
+    ensures out { result.1 ≡ ran.1 }
+{
+    (stop_of_text(ran.0), ran.1)
+}
+
+// What a command answers that says whether something is so, and its output.
+fn runs<W>(
+    ran: (Result<bool, ReplayFault>, Option<W>),
+    missed: Missed,
+) -> (Result<(), Stop>, Option<W>)
+    ensures stop { status_at result.0 ≡ status_of_runs ran.0 }
+    ensures out { result.1 ≡ ran.1 }
+{
+    (stop_of_runs(ran.0, missed), ran.1)
+}
+
+// What is answered to a request.
 fn answer<H: Clock + Files + Threads + Wait + Sync, R: Source, W: Write + Drop>(
     rt: &H,
     alloc: Global,
-    asked: Result<Request, clap::Error>,
+    request: Request,
     reader: &mut R,
-    mut out: W,
+    out: W,
     faults: &mut impl Report,
 ) -> (Result<(), Stop>, Option<W>)
-    ensures asked { IfOk asked (λ request. Answered request result.0 (R.remaining reader.old) (R.remaining reader.new)
-        (R.failures reader.old) (R.failures reader.new) (W.contents out) (option_map W.contents result.1)) }
-    ensures none { IfErr asked (λ error. AnsweredNone error result.0 (R.remaining reader.old) (R.remaining reader.new)
-        (R.failures reader.old) (R.failures reader.new) (W.contents out) (option_map W.contents result.1)) }
+    ensures { Ends request (status_at result.0) (R.remaining reader.old) (R.remaining reader.new) (R.failures reader.old)
+        (R.failures reader.new) (W.contents out) (option_map W.contents result.1) }
 {
-    match asked {
-        Ok(Request::Replay) => {
-            let (replayed, out) = run_replay(alloc, reader, out);
-            (stopped(replayed), out)
+    match request {
+        Request::Replay => text(run_replay(alloc, reader, out)),
+        Request::Explore(exploration) => runs(
+            run_explore(rt, alloc, exploration, reader, out, faults),
+            Missed::Ends,
+        ),
+        Request::Summarize(survey) => runs(
+            run_summarize(rt, alloc, survey, reader, out, faults),
+            Missed::Ends,
+        ),
+        Request::Check => text(run_check(alloc, reader, out)),
+        Request::Explain(view) => text(run_explain(alloc, &view, reader, out)),
+        Request::ExplainJson(view) => text(run_explain_json(alloc, &view, reader, out)),
+        Request::Draw => text(run_draw(alloc, reader, out)),
+        Request::Page => text(run_page(alloc, reader, out)),
+        Request::Schedule(scheduling) => text(run_schedule(alloc, scheduling, reader, out, faults)),
+        Request::Find(search) => runs(
+            run_find(rt, alloc, &search, reader, out, faults),
+            Missed::Runs(search.hunt.limit),
+        ),
+        Request::Minimize(conditions) => runs(
+            run_minimize(alloc, conditions.as_slice(), reader, out),
+            Missed::Trace,
+        ),
+        Request::Format => {
+            let (formatted, out) = run_format(alloc, reader, out);
+            (stop_of_format(formatted), out)
         }
-        Ok(Request::Explore(exploration)) => run_explore(
-            rt,
-            alloc,
-            exploration,
-            reader,
-            out,
-            faults,
+        Request::Step => text(run_step(rt, alloc, reader, out)),
+        Request::Race(racing) => runs(
+            run_race(rt, alloc, racing, reader, out, faults),
+            Missed::Ends,
         ),
-        Ok(Request::Summarize(survey)) => run_summarize(rt, alloc, survey, reader, out, faults),
-        Ok(Request::Check) => run_check(alloc, reader, out),
-        Ok(Request::Explain(view)) => run_explain(alloc, &view, reader, out),
-        Ok(Request::ExplainJson(view)) => run_explain_json(alloc, &view, reader, out),
-        Ok(Request::Draw) => run_draw(alloc, reader, out),
-        Ok(Request::Page) => run_page(alloc, reader, out),
-        Ok(Request::Schedule(scheduling)) => run_schedule(alloc, scheduling, reader, out, faults),
-        Ok(Request::Find(search)) => run_find(rt, alloc, search, reader, out, faults),
-        Ok(Request::Minimize(conditions)) => run_minimize(
-            alloc,
-            conditions.as_slice(),
-            reader,
-            out,
-        ),
-        Ok(Request::Format) => run_format(alloc, reader, out),
-        Ok(Request::Step) => run_step(rt, alloc, reader, out),
-        Ok(Request::Race(racing)) => run_race(rt, alloc, racing, reader, out, faults),
-        Ok(Request::Work(words)) => run_work(rt, alloc, words, out),
-        Ok(Request::TraceWork(words)) => run_trace_work(alloc, words, out),
-        Err(error) => match error.kind() {
-            ErrorKind::DisplayHelp | ErrorKind::DisplayVersion => {
-                let written = write_help(&error, &mut out);
-                (stopped(written), Some(out))
-            }
-            _ => (Err(no_request(error)), Some(out)),
-        },
+        Request::Work { name, driver } => {
+            let (worked, out) = run_work(rt, alloc, WorkWords { name, driver }, out);
+            (stop_of_work(worked), out)
+        }
+        Request::TraceWork { name, driver } => {
+            let (worked, out) = run_trace_work(alloc, WorkWords { name, driver }, out);
+            (stop_of_work(worked), out)
+        }
     }
 }
 
-pub(crate) fn stopped(answer: Result<(), ReplayFault>) -> Result<(), Stop>
-    ensures ok { OnOk answer (result ≡ Ok tt) }
-    ensures err { IfErr answer (λ fault. result ≡ Err (Stop.Replay fault)) }
+// Writes what is asked for as an error, help or the version, or tells why nothing is asked for.
+fn refuse<R: Source + Recalls, W: Write + Drop>(
+    error: clap::Error,
+    reader: &R,
+    mut out: W,
+    faults: &mut impl Write,
+) -> (u8, Option<W>)
+    ensures { EndsUnasked error result.0 (R.remaining reader.now) (R.remaining reader.now) (R.failures reader.now)
+        (R.failures reader.now) (W.contents out) (option_map W.contents result.1) }
 {
-    match answer {
-        Ok(()) => Ok(()),
-        Err(fault) => Err(Stop::Replay(fault)),
-    }
-}
-
-/// What is answered where a trace was written that meets the conditions, or nothing since there is none. A flush that fails is a
-/// failed write.
-pub(crate) fn hunted_answer(
-    met: Result<bool, ReplayFault>,
-    flushed: io::Result<()>,
-    missed: Missed,
-) -> Result<(), Stop>
-    ensures failed { OnErr flushed (result ≡ Err (Stop.Replay ReplayFault.Write)) }
-    ensures fault { OnOk flushed (IfErr met (λ fault. result ≡ Err (Stop.Replay fault))) }
-    ensures met { OnOk flushed (met ≡ Ok true → result ≡ Ok tt) }
-    ensures missed { OnOk flushed (met ≡ Ok false → result ≡ Err (Stop.Missed missed)) }
-{
-    match (flushed, met) {
-        (Err(_), _) => Err(Stop::Replay(ReplayFault::Write)),
-        (Ok(()), Err(fault)) => Err(Stop::Replay(fault)),
-        (Ok(()), Ok(true)) => Ok(()),
-        (Ok(()), Ok(false)) => Err(Stop::Missed(missed)),
+    match error.kind() {
+        ErrorKind::DisplayHelp | ErrorKind::DisplayVersion => {
+            let answer = stop_of_text(write_help(&error, &mut out));
+            (end(&answer, reader, faults), Some(out))
+        }
+        _ => {
+            let answer = Err(no_request(error));
+            (end(&answer, reader, faults), Some(out))
+        }
     }
 }
 
 // Words that clap refused, or that it had no memory to read.
 fn no_request(error: clap::Error) -> Stop
-    ensures { IsRefusal error result }
+    ensures memory { kind_of error ≡ ErrorKind.OutOfMemory → status_of result ≡ 1 }
+    ensures usage { kind_of error ≢ ErrorKind.OutOfMemory → status_of result ≡ 2 }
 {
     match error.kind() {
         ErrorKind::OutOfMemory => Stop::Replay(ReplayFault::Memory),
@@ -272,19 +227,8 @@ fn no_request(error: clap::Error) -> Stop
 
 // Help comes from clap as an error, but is what was asked for.
 fn write_help(help: &clap::Error, out: &mut impl Write) -> Result<(), ReplayFault>
-    ensures { IfErr result (λ fault. fault ≡ ReplayFault.Write) }
+    ensures { AnsweredHelp result }
 {
     write!(out, "{help}").map_err(|_| ReplayFault::Write)?;
     out.flush().map_err(|_| ReplayFault::Write)
-}
-
-// After a failed write nothing more is written, to an output that has no buffer either.
-pub(crate) fn flush_out<W: Write>(failed: bool, out: &mut W) -> io::Result<()>
-    ensures bytes { Keeps (W.contents out.old) (W.contents out.new) }
-    ensures untouched { failed ≡ true → IsOk result × (out.new ≡ out.old) }
-{
-    if failed {
-        return Ok(());
-    }
-    out.flush()
 }

@@ -1,5 +1,5 @@
 use Rattle.std.proofs.Common.{◌≡◌, ◌+◌}
-use Rattle.hp_explain.specs.Waits.{AreHolders}
+use Rattle.hp_watch.specs.Holders.{AreHolders}
 use Rattle.hp_explain.specs.Rows.{shown_text}
 use Rattle.hp_explain.proofs.Happenings.{ToldSoFar}
 use Rattle.hp_explain.proofs.rows.write_rows.Given as goal

@@ -1,6 +1,6 @@
 use Rattle.std.proofs.Common.{◌∙◌, ◌-◌, arith}
 use Rattle.std.proofs.lemmas.List.{length-set}
-use Rattle.hp_explore.proofs.Phases.{outcome_agrees, phases_after}
+use Rattle.hp_watch.proofs.Phases.{outcome_agrees, phases_after}
 use Rattle.hp_hunt.proofs.Noted.{met_more, met_same, phases_stay}
 use Rattle.hp_hunt.proofs.noting.note_phase.Goals as goal
 

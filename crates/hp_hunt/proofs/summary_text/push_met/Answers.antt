@@ -1,7 +1,7 @@
 use Rattle.std.proofs.Common.{arith}
 use Rattle.std.specs.List.{flat_map}
 use Rattle.hp_machine.specs.declared.phase.Phase.TheVariants as phase
-use Rattle.hp_hunt.specs.Phases.{all_phases}
+use Rattle.hp_phases.specs.Phases.{all_phases}
 use Rattle.hp_hunt.specs.SummaryText.{met_line}
 use Rattle.hp_hunt.proofs.Laid.{laid_all, laid_more}
 use Rattle.hp_hunt.proofs.summary_text.push_met.Goals as goal

@@ -1,7 +1,7 @@
 use Rattle.std.proofs.Common.{◌≡◌, ◌++◌, take}
 use Rattle.std.specs.Prelude.{string_bytes}
 use Rattle.std.specs.List.{flat_map}
-use Rattle.hp_hunt.specs.Phases.{all_phases}
+use Rattle.hp_phases.specs.Phases.{all_phases}
 use Rattle.hp_hunt.specs.SummaryText.{met_line}
 use Rattle.hp_hunt.proofs.summary_text.push_met.Given as goal
 

@@ -2,7 +2,7 @@ use Rattle.std.proofs.Common.{◌≡◌, ap, sym, ◌∙◌}
 use Rattle.std.specs.Prelude.{Option, Some, is_some}
 use Rattle.hp_machine.specs.declared.phase.Phase.{Phase}
 use Rattle.hp_core.specs.Readers.{phase_of}
-use Rattle.hp_explore.proofs.Phases.{not_so, waits_not}
+use Rattle.hp_watch.proofs.Phases.{not_so, waits_not}
 use Rattle.hp_explore.proofs.Runnable.{free_can, held_cannot}
 use Rattle.hp_explore.proofs.walk.Walk.can_turn.Goals as goal
 

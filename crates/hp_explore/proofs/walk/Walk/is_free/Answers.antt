@@ -2,7 +2,7 @@ use Rattle.std.proofs.Common.{ℕ, ap, ◌∙◌, subst}
 use Rattle.std.specs.Prelude.{not, Option, Some}
 use Rattle.hp_core.specs.Waiting.{WaitsFor}
 use Rattle.hp_explore.specs.Schedule.{World}
-use Rattle.hp_explore.proofs.Phases.{some_holder}
+use Rattle.hp_watch.proofs.Phases.{some_holder}
 use Rattle.hp_explore.proofs.walk.Walk.is_free.Goals as goal
 
 pub returns-clause-held : goal.returns-clause-held

@@ -3,7 +3,7 @@ use Rattle.std.proofs.Common.{rules, ◌∙◌, ℕ, List, length, ap, sym}
 use Rattle.std.specs.Prelude.{Option, None}
 use Rattle.std.proofs.lemmas.List.{length-replicate}
 use Rattle.hp_machine.specs.declared.phase.Phase.{Phase}
-use Rattle.hp_explore.proofs.Phases.{no_phases}
+use Rattle.hp_watch.proofs.Phases.{no_phases}
 use Rattle.hp_explore.proofs.walk.Walk.new.Goals as goal
 
 pub invariant_of-result : goal.invariant_of-result

@@ -1,4 +1,4 @@
-use Rattle.hp_explore.proofs.Phases.{no_phases}
+use Rattle.hp_watch.proofs.Phases.{no_phases}
 use Rattle.hp_hunt.proofs.Noted.{none_held, none_met, opened_reached}
 use Rattle.hp_hunt.proofs.noting.Notes.new.Goals as goal
 

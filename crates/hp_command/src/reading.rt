@@ -1,0 +1,166 @@
+//! The words of a command line, read.
+use crate::commands::{FIND, MINIMIZE, program};
+use crate::conditions::read_conditions;
+use crate::request::{Asked, Input, Racing, Request, Scheduling, Search, When};
+use crate::view::read_view;
+use clap::{ArgMatches, Error};
+use hp_explain::View;
+use hp_explore::{Audit, Chances, Exploration};
+use hp_hunt::{Hunt, Survey};
+use hp_race as race;
+use std::alloc::{AllocError, Global};
+use std::convert::AsStr;
+use std::num::NonZeroU32;
+
+fn seed(given: &ArgMatches) -> u64 {
+    given.get_one::<u64>("seed").unwrap_or(1)
+}
+
+fn number(given: &ArgMatches, name: &str, default: u32) -> u32 {
+    given.get_one::<u32>(name).unwrap_or(default)
+}
+
+fn chances(given: &ArgMatches) -> Chances {
+    Chances {
+        deny: number(given, "deny", 0),
+        kill: number(given, "kill", 0),
+    }
+}
+
+fn audit(given: &ArgMatches) -> Audit {
+    if given.get_flag("audit") {
+        Audit::EachTurn
+    } else {
+        Audit::LeftOut
+    }
+}
+
+fn exploring(given: &ArgMatches) -> Request {
+    let (seed, runs, chances) = (seed(given), number(given, "runs", 10), chances(given));
+    if given.get_flag("summary") {
+        return Request::Summarize(Survey {
+            seed,
+            runs,
+            chances,
+        });
+    }
+    Request::Explore(Exploration {
+        seed,
+        runs,
+        chances,
+        audit: audit(given),
+    })
+}
+
+fn scheduling(given: &ArgMatches) -> Request {
+    Request::Schedule(Scheduling {
+        seed: seed(given),
+        run: number(given, "run", 0),
+        chances: chances(given),
+    })
+}
+
+fn finding(alloc: Global, given: &ArgMatches) -> Result<Request, Error> {
+    let conditions = read_conditions(alloc, given, &FIND)?;
+    let hunt = Hunt {
+        seed: seed(given),
+        limit: number(given, "limit", 65_536),
+        chances: chances(given),
+    };
+    Ok(Request::Find(Search { hunt, conditions }))
+}
+
+fn racing(given: &ArgMatches) -> Request {
+    let chances = race::Chances {
+        seed: seed(given),
+        deny: number(given, "deny", 0),
+        kill: number(given, "kill", 0),
+    };
+    if given.get_flag("trace") {
+        return Request::Race(Racing::Trace { chances });
+    }
+    Request::Race(Racing::Times {
+        times: number(given, "times", 10),
+        cut: given.get_one::<u32>("cut").and_then(NonZeroU32::new),
+        chances,
+    })
+}
+
+fn working(alloc: Global, given: &ArgMatches) -> Result<Request, AllocError> {
+    let name = String::from_str(alloc, given.get_str("NAME").unwrap_or(""))?;
+    let driver = String::from_str(alloc, given.get_str("on").unwrap_or("core"))?;
+    if given.get_flag("trace") {
+        return Ok(Request::TraceWork { name, driver });
+    }
+    Ok(Request::Work { name, driver })
+}
+
+fn explaining(alloc: Global, given: &ArgMatches) -> Result<Request, Error> {
+    let view = read_view(alloc, given)?;
+    if given.get_flag("json") {
+        return Ok(Request::ExplainJson(view));
+    }
+    Ok(Request::Explain(view))
+}
+
+fn replaying(given: &ArgMatches) -> Request {
+    if given.get_flag("json") {
+        return Request::ExplainJson(View::whole());
+    }
+    Request::Replay
+}
+
+fn drawing(given: &ArgMatches) -> Request {
+    if given.get_flag("html") {
+        return Request::Page;
+    }
+    Request::Draw
+}
+
+fn request(alloc: Global, name: &str, given: &ArgMatches) -> Result<Request, Error> {
+    Ok(match name {
+        "explore" => exploring(given),
+        "check" => Request::Check,
+        "explain" => explaining(alloc, given)?,
+        "draw" => drawing(given),
+        "schedule" => scheduling(given),
+        "find" => finding(alloc, given)?,
+        "minimize" => Request::Minimize(read_conditions(alloc, given, &MINIMIZE)?),
+        "format" => Request::Format,
+        "step" => Request::Step,
+        "race" => racing(given),
+        "work" => working(alloc, given)?,
+        _ => replaying(given),
+    })
+}
+
+fn input(alloc: Global, name: &str, given: &ArgMatches) -> Result<Input, AllocError> {
+    if name == "work" {
+        return Ok(Input::Nothing);
+    }
+    match given.get_str("FILE") {
+        Some(path) => Ok(Input::File(String::from_str(alloc, path)?)),
+        None if name == "step" => Ok(Input::Nothing),
+        None => Ok(Input::Standard),
+    }
+}
+
+// A command that has nothing to colour has no such option.
+fn colours(given: &ArgMatches) -> When {
+    match given.get_str("color") {
+        Some("always") => When::Always,
+        Some("auto") => When::Auto,
+        _ => When::Never,
+    }
+}
+
+/// Reads the words of a command line, the program's name first. Help and the version come as an error, as clap has them.
+pub fn read_words<S: AsStr>(alloc: Global, words: &[S]) -> Result<Asked, Error> {
+    let matches = program(alloc)?.try_get_matches_from(words)?;
+    let (name, given) = matches.subcommand().unwrap_or(("replay", &matches));
+    Ok(Asked {
+        request: request(alloc, name, given)?,
+        input: input(alloc, name, given)?,
+        colours: colours(given),
+    })
+}

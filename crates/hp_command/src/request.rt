@@ -1,0 +1,101 @@
+//! What the words of a command line ask for.
+use hp_explain::View;
+use hp_explore::{Chances, Exploration};
+use hp_hunt::{Condition, Hunt, Survey};
+use hp_race as race;
+use std::num::NonZeroU32;
+
+/// Which run of a script is written as a trace.
+#[derive(Clone, Copy)]
+pub struct Scheduling {
+    pub seed: u64,
+    pub run: u32,
+    pub chances: Chances,
+}
+
+/// What a run of a script is searched for.
+#[derive(Drop)]
+pub struct Search {
+    pub hunt: Hunt,
+    pub conditions: Vec<Condition>,
+}
+
+/// Which races of a script are run.
+#[derive(Clone, Copy)]
+pub enum Racing {
+    /// So many, with a line for each. Where `cut` is a number, the journal is cut behind so many calls of each task.
+    Times {
+        times: u32,
+        cut: Option<NonZeroU32>,
+        chances: race::Chances,
+    },
+    /// One, which is written as a trace.
+    Trace {
+        chances: race::Chances,
+    },
+}
+
+/// What the command line asks for.
+#[derive(Drop)]
+pub enum Request {
+    /// To read a trace and run it.
+    Replay,
+    /// To read a script, and print a line for each of its runs.
+    Explore(Exploration),
+    /// To read a script, and summarize its runs.
+    Summarize(Survey),
+    /// To read a trace, and count its events.
+    Check,
+    /// To read a trace, and explain it.
+    Explain(View),
+    /// To read a trace, and explain it in lines of JSON.
+    ExplainJson(View),
+    /// To read a trace, and draw it.
+    Draw,
+    /// To read a trace, and write it as a page.
+    Page,
+    /// To read a script, and write one run of it as a trace.
+    Schedule(Scheduling),
+    /// To read a script, and write a run of it that meets conditions as a trace.
+    Find(Search),
+    /// To read a trace that meets conditions, and write a small one that still does.
+    Minimize(Vec<Condition>),
+    /// To read a trace in the loose form, and write it as a strict one.
+    Format,
+    /// To drive a pool line by line.
+    Step,
+    /// To read a script, and race its tasks.
+    Race(Racing),
+    /// To run a workload of this name over a driver.
+    Work { name: String, driver: String },
+    /// To run a workload of this name, and write what its calls do as a trace.
+    TraceWork { name: String, driver: String },
+}
+
+/// What a command reads.
+#[derive(Drop)]
+pub enum Input {
+    /// Standard input, of which all is read before most is answered.
+    Standard,
+    /// The file of this name.
+    File(String),
+    /// Nothing, or standard input line by line.
+    Nothing,
+}
+
+/// When words are coloured.
+#[derive(Clone, Copy, Debug, PartialEq, Eq)]
+pub enum When {
+    /// At a terminal, unless the environment is against it.
+    Auto,
+    Always,
+    Never,
+}
+
+/// What the command line asks for, what is read for it, and when words of the output are coloured.
+#[derive(Drop)]
+pub struct Asked {
+    pub request: Request,
+    pub input: Input,
+    pub colours: When,
+}

@@ -1,7 +1,0 @@
-use Rattle.std.proofs.Common.{◌≡◌, length}
-use Rattle.hp_explain.specs.Waits.{AreHoldersOf}
-use Rattle.hp_explain.proofs.waits.list_holders.Given as goal
-
--- the holders of the tasks so far
-abbrev pub invariant-loop-number : goal.invariant-loop-number
-invariant-loop-number l = (length l.holders.items ≡ l.number) × AreHoldersOf l.core l.holders.items

@@ -1,0 +1,4 @@
+pub mod Hunting
+pub mod Racing
+pub mod Runs
+pub mod Summing

@@ -1,0 +1,92 @@
+//! How far a search is, where somebody watches.
+use hp_hunt::Progress;
+use std::io;
+use std::io::{IsTerminal, Stderr, Write};
+use std::time::{Clock, Duration, Instant};
+
+/// Where faults are written, and how far a search is.
+pub trait Report: Write {
+    /// Whether somebody watches what is written.
+    fn is_watched(&self) -> bool;
+}
+
+impl Report for Stderr {
+    fn is_watched(&self) -> bool {
+        self.is_terminal()
+    }
+}
+
+/// A search that takes less time isn't reported.
+const SOON: u64 = 500;
+
+/// A line that says how far a search is, where somebody watches and there is a clock. It is written anew as the search goes on, and
+/// erased at its end.
+#[derive(Drop)]
+pub(crate) struct ProgressLine<'a, C: Clock, F: Report> {
+    clock: &'a C,
+    faults: &'a mut F,
+    began: Option<Instant>,
+    is_shown: bool,
+}
+
+// Writes how many runs were explored in so many milliseconds, and how long the others will take.
+fn write_progress(
+    faults: &mut impl Write,
+    runs: u32,
+    all: u32,
+    milliseconds: u64,
+) -> io::Result<()> {
+    let explored = u64::from(runs.max(1));
+    let left = u64::from(all.saturating_sub(runs));
+    let rate = explored.saturating_mul(1000) / milliseconds.max(1);
+    let seconds = left.saturating_mul(milliseconds / 1000 + 1) / explored;
+    write!(
+        faults,
+        "\r\x1b[Khugepool: {runs} of {all} runs, {rate} a second, "
+    )?;
+    if seconds < 120 {
+        write!(faults, "{seconds} s left")
+    } else {
+        write!(faults, "{} min left", seconds / 60)
+    }
+}
+
+impl<'a, C: Clock, F: Report> ProgressLine<'a, C, F> {
+    /// For a search that begins now.
+    pub(crate) fn new(clock: &'a C, faults: &'a mut F) -> ProgressLine<'a, C, F> {
+        let began = if faults.is_watched() {
+            Instant::now(clock).ok()
+        } else {
+            None
+        };
+        ProgressLine {
+            clock,
+            faults,
+            began,
+            is_shown: false,
+        }
+    }
+
+    /// Erases the line.
+    pub(crate) fn end(self) {
+        if self.is_shown {
+            let _ = self.faults.write_all(b"\r\x1b[K");
+        }
+    }
+}
+
+impl<'a, C: Clock, F: Report> Progress for ProgressLine<'a, C, F> {
+    fn explored(&mut self, runs: u32, all: u32) {
+        let Some(began) = self.began else {
+            return;
+        };
+        let elapsed = began.elapsed(self.clock).unwrap_or(Duration::ZERO);
+        let milliseconds = elapsed
+            .as_secs()
+            .saturating_mul(1000)
+            .saturating_add(u64::from(elapsed.subsec_millis()));
+        if milliseconds >= SOON && runs < all {
+            self.is_shown = write_progress(self.faults, runs, all, milliseconds).is_ok();
+        }
+    }
+}

@@ -1,0 +1,2 @@
+mod Formatted
+mod Texts

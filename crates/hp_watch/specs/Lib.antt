@@ -1,0 +1,4 @@
+pub mod Holders
+pub mod Happenings
+pub mod Linux
+pub mod Phases

@@ -1,4 +1,0 @@
-use Rattle.hugepool.proofs.carrying.run_on.Given as goal
-
-abbrev pub ghosts-run_on_pool : goal.ghosts-run_on_pool
-ghosts-run_on_pool g a = record { name = a.blank.name; parts = a.blank.parts }

@@ -1,5 +1,0 @@
-use Rattle.hugepool.proofs.Unpainted.{text_again}
-use Rattle.hugepool.proofs.laws.colours_add_nothing_else.Goals as goal
-
-pub returns : goal.returns
-returns c = text_again

@@ -1,6 +1,0 @@
-use Rattle.std.proofs.Common.{◌∙◌}
-use Rattle.hugepool.proofs.Colours.{among_words}
-use Rattle.hugepool.proofs.palette.has_colour.Goals as goal
-
-pub returns : goal.returns
-returns c = c.is_among.ensures ∙ among_words c.args.word.now c.args.palette c.args.colour c.words.result.now c.words.ensures

@@ -1,6 +1,0 @@
-use Rattle.std.proofs.Common.{◌≡◌}
-use Rattle.hugepool.proofs.stepping.step_lines.Given as goal
-
--- no read has failed
-abbrev pub invariant-loop : goal.invariant-loop
-invariant-loop g l = g.R.Source.failures l.reader ≡ g.R.Source.failures l.fn.reader

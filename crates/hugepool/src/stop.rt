@@ -1,0 +1,95 @@
+//! Why the program ends with another status than 0.
+ghost use Rattle.std.specs.Prelude.{◌≡◌};
+ghost use Rattle.hp_pool_commands.specs.Working.{status_of_work};
+ghost use Rattle.hp_program.specs.Answers.{status_of_runs, status_of_text};
+ghost use Rattle.hp_trace_commands.specs.Formatting.{status_of_format};
+ghost use Rattle.hugepool.specs.Status.{status_at, status_of};
+
+use hp_format::LooseFault;
+use hp_pool_commands::WorkFault;
+use hp_text::ReplayFault;
+use thiserror::Error;
+
+/// Why the program ends with another status than 0.
+#[derive(Debug, Drop, Error)]
+pub(crate) enum Stop {
+    #[error("{0}")]
+    Usage(clap::Error),
+    #[error("{0}")]
+    Replay(ReplayFault),
+    #[error("{0}")]
+    Work(WorkFault),
+    #[error("{0}")]
+    Missed(Missed),
+    #[error("hugepool: {0}\n")]
+    Loose(LooseFault),
+}
+
+/// What was asked for, and isn't so.
+#[derive(Clone, Copy, Debug, PartialEq, Eq, Error)]
+pub(crate) enum Missed {
+    /// All runs come to their ends. The lines of the others say so.
+    #[error("")]
+    Ends,
+    /// One of so many runs meets the conditions.
+    #[error("hugepool: no run meets all conditions (runs explored: {0})\n")]
+    Runs(u32),
+    /// The trace meets the conditions.
+    #[error("hugepool: the trace doesn't meet all conditions\n")]
+    Trace,
+}
+
+impl Stop {
+    /// The status of the program.
+    pub(crate) fn status(&self) -> u8
+        ensures { result ≡ status_of self.now }
+    {
+        match self {
+            Stop::Usage(_) => 2,
+            Stop::Replay(_) | Stop::Missed(_) | Stop::Loose(_) => 1,
+            Stop::Work(fault) => fault.status(),
+        }
+    }
+}
+
+/// Of a command that writes a text.
+pub(crate) fn stop_of_text(answer: Result<(), ReplayFault>) -> Result<(), Stop>
+    ensures { status_at result ≡ status_of_text answer }
+{
+    match answer {
+        Ok(()) => Ok(()),
+        Err(fault) => Err(Stop::Replay(fault)),
+    }
+}
+
+/// Of a command that answers whether something is so.
+pub(crate) fn stop_of_runs(answer: Result<bool, ReplayFault>, missed: Missed) -> Result<(), Stop>
+    ensures { status_at result ≡ status_of_runs answer }
+{
+    match answer {
+        Ok(true) => Ok(()),
+        Ok(false) => Err(Stop::Missed(missed)),
+        Err(why) => Err(Stop::Replay(why)),
+    }
+}
+
+/// Of `format`.
+pub(crate) fn stop_of_format(answer: Result<(), LooseFault>) -> Result<(), Stop>
+    ensures { status_at result ≡ status_of_format answer }
+{
+    match answer {
+        Ok(()) => Ok(()),
+        Err(LooseFault::Stream(why)) => Err(Stop::Replay(why)),
+        Err(fault) => Err(Stop::Loose(fault)),
+    }
+}
+
+/// Of `work`.
+pub(crate) fn stop_of_work(answer: Result<(), WorkFault>) -> Result<(), Stop>
+    ensures { status_at result ≡ status_of_work answer }
+{
+    match answer {
+        Ok(()) => Ok(()),
+        Err(why) => Err(Stop::Work(why)),
+    }
+}
