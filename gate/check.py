@@ -1,33 +1,21 @@
 """Proves, tests and compares: what a change has to pass.
 
-usage: ./check [STEP] [..]
+usage: ./check [--install] [STEP] [..]
 
-  ./check            all steps but quick: what has to pass before a change lands
-  ./check all        the same, with every mutant, whether or not its crate changed
-  ./check ci         every proof from nothing, all tests and programs, and the mutants of must-fail/ (rt ci)
-  ./check edits [CRATE ..] [--all] [--each]
-                     the mutants: wrong bodies that the prover must refuse. With no crate named, those of each crate that changed, or
-                     that stands on one that did, since they were refused; where few are due, those of some other crates, too
-                     (--all: all); then faulty mutants that must be reported, and
-                     whether docs/INDEX.md, pictures, the page of draw --html, numbers and lists of files are what scripts write, and
-                     docs/PROVED.md names the calls and clauses that there are.
-                     Of crates that are named all mutants; --each prints a line for each
-  ./check examples   the output of the traces of examples/, which no single output shows, of each command's help, and of each wrong
-                     field of a line; a long race, and its trace; that the programs compiled without proof print the same, that a
-                     journal that goes wrong and a flush that fails are found (needs cc); when ./hugepool builds; what ./check
-                     itself counts; the names in documents, and what commands print that they show; with cargo, each size beside plain
-                     programs, and some seconds of random and damaged traces
-  ./check refusals   a failed allocation, read or write at each place where programs and drivers make one, one a run, and how many
-                     threads the commands start, and that those of a race meet (needs cc)
-  ./check linux      what Linux kernels answered (conformance/), peers' tests, recordings of races, those that hp_linux follows, a few
-                     races in every schedule, and the recorder, as far as it needs no kernel (needs cc)
-  ./check library    libhugepool: its header beside definitions and sources, and programs in C, Rust and Python that call it, with
-                     sanitizers and with each growth of memory refused (needs cc; for Rust cargo, for Python pytest)
-  ./check quick      before a commit: the format of changed texts; proofs and tests of what changed; whether each mutant applies;
-                     names in documents, calls and clauses in docs/PROVED.md, and what scripts write there
+  ./check              all tests that need no proof: over the proved program if it is current, else over the one compiled without proof
+  ./check all          every proof, from nothing (rt ci); these tests; and the mutants that are due
+  ./check proofs       the proofs alone
+  ./check mutants [CRATE ..] [--all] [--each]
+                       the mutants: wrong bodies that the prover must refuse; of crates that are named, of those that are due, or of all
+  ./check examples     what the program writes of the examples, of every size, at terminals, in threads and on streams that fail;
+                       what ./hugepool compiles and proves; documents that show what commands print
+  ./check faults       a failed allocation, read or write at each place where a program makes one, and the threads that it starts
+  ./check linux        what Linux kernels answered (conformance/), peers' tests, recordings of races
+  ./check library      libhugepool from C, Rust and Python
+  ./check documents    the names in documents, pages that scripts write, docs/PROVED.md beside the sources, whether each mutant applies
 
-First it lists the commands that are missing. At the end it prints what each step took, what was left out, and of each script that
-failed its last lines once more. The last line is 'N passed, M failed'.
+What is missing is installed where this runs as root or with --install; else one line says how. It prints what was left out for want of a
+command or of a proof, and the output of each script that failed. The last line is 'N passed, M failed'.
 """
 from __future__ import annotations
 
@@ -39,302 +27,216 @@ import signal
 import subprocess
 import sys
 import tempfile
-from collections import deque
-from concurrent.futures import ThreadPoolExecutor
-from itertools import groupby
-from pathlib import Path
-from typing import Callable, Iterable
+import threading
+import time
+from concurrent.futures import ThreadPoolExecutor, as_completed
+from typing import Callable, NamedTuple
 
 import programs
-from edit import PARTS, mutants_of
-from marks import PROOFS, TESTS, Marks, stamp, stamps_of
-from scratch import TOP, below, crates_of
-from times import Times
+from programs import TOP, is_current, program_of
+from building import Line  # (of the launcher, which programs makes known)
 
-# the scripts of each step, with their words; ci and quick run more than scripts
-SCRIPTS = {
-    "ci": ("rt ci",),
-    "edits": (
-        "gate/try_edits.py",
-        "gate/test_edits.py",
-        "gate/index.py",
-        "gate/pictures.py",
-        "gate/page.py",
-        "gate/numbers.py",
-        "gate/places.py",
-        "gate/proved.py",
-    ),
-    "examples": (
-        "gate/examples.py",
-        "gate/sweep.py",
-        "gate/showing.py",
-        "gate/soak.py",
-        "gate/unproved.py",
-        "gate/test_launcher.py",
-        "gate/test_proving.py",
-        "gate/test_check.py",
-        "gate/documents.py",
-        "gate/shown.py",
-        "bench/fuzz.sh 10 1",
-    ),
-    "refusals": ("gate/growths.py",),
-    "linux": (
-        "conformance/compare.py",
-        "conformance/races.py",
-        "conformance/live/test_check.py",
-        "conformance/live/lines.py",
-        "conformance/live/lost.py",
-        "conformance/live/repairs.py",
-        "conformance/live/test_instrument.py",
-        "conformance/test_compare.py",
-        "conformance/test_record.py",
-        "conformance/test_kernel.py",
-        "conformance/test_peers.py",
-        "conformance/test_versions.py",
-    ),
-    "library": ("library/header.py", "library/check.py"),
-    "quick": (
-        "rt check and test",
-        "gate/documents.py",
-        "gate/index.py",
-        "gate/pictures.py",
-        "gate/page.py",
-        "gate/numbers.py",
-        "gate/places.py",
-        "gate/proved.py",
-    ),
+
+class Script(NamedTuple):
+    """A script: its words, the commands that it needs, whether it needs the proved program, and whether the library for C."""
+
+    words: str
+    needs: tuple[str, ...] = ()
+    proved: bool = False
+    library: bool = False
+
+
+CONFORMANCE = TOP / "conformance"
+# (those that take longest come first)
+GROUPS = {
+    "faults": [Script("gate/growths.py", ("cc",))],
+    "examples": [
+        Script("gate/unproved.py", ("cc",)),
+        Script("gate/sweep.py", ("cargo",)),
+        Script("gate/examples.py"),
+        Script("gate/showing.py"),
+        Script("gate/test_launcher.py"),
+        Script("gate/documents.py --shown"),
+        Script("bench/fuzz.sh 10 1", ("cargo",)),
+    ],
+    "linux": [
+        Script("conformance/compare.py", proved=True),
+        *(Script(f"conformance/{it}.py") for it in ("races", "live/lines", "live/lost", "live/repairs")),
+        # (each test that there is)
+        *(Script(str(it.relative_to(TOP)), ("cc", "cargo"), it.stem == "test_compare") for it in sorted(CONFORMANCE.glob("**/test_*.py"))),
+    ],
+    "library": [Script("library/header.py", ("cc",)), Script("library/check.py", ("cc",), library=True)],
+    "documents": [Script(f"gate/{it}") for it in ("documents.py", "page.py", "proved.py", "mutants.py --apply")],
 }
-# the commands that scripts need, each with its Debian package and what is left out without it; without the first two nothing runs
-NEEDS = {
-    "rt": ("the Rattle toolchain, which is no package of Debian's", ()),
-    "find": ("findutils", ()),
-    "cc": (
-        "gcc",
-        (
-            "gate/growths.py",
-            "gate/unproved.py",
-            "conformance/test_record.py",
-            "conformance/test_kernel.py",
-            "library/header.py",
-            "library/check.py",
-        ),
-    ),
-    "cargo": (
-        "cargo",
-        ("gate/sweep.py", "bench/fuzz.sh", "conformance/test_kernel.py", "conformance/test_peers.py", "conformance/test_versions.py"),
-    ),
-}
-WHOLE = ("ci", "edits", "examples", "refusals", "linux", "library")
-# of more crates than these the toolchain proves all; of fewer so many are begun at a time, since one may take several processors
-MANY, AT_A_TIME = 12, 2
-PIPED = {"stdin": subprocess.DEVNULL, "stdout": subprocess.PIPE, "stderr": subprocess.STDOUT, "text": True, "errors": "replace"}
-COUNTS = re.compile(r"^(?:[\w ]+: )?(\d+) passed, (\d+) failed$")
-# of a script that failed, so many of its last lines are repeated at the end
-REPEATED = 20
+# the commands that scripts need, each with its Debian package; without the first nothing runs
+PACKAGES = {"rt": None, "git": "git", "find": "findutils", "cc": "gcc libc6-dev"}
+PACKAGES |= {"cargo": "cargo", "node": "nodejs", "pytest": "python3-pytest"}
+COUNTS = re.compile(r"^(?:[\w ]+: )?(\d+) passed, (\d+) failed$", re.M)
+# (without a network apt-get gives up soon)
+QUICKLY = ("-o", "Acquire::Retries=0", "-o", "Acquire::http::Timeout=10")
+# a script that takes longer hangs
+SECONDS, DAY = 3600, 86_400
 
 
-def path_of(script: str) -> str:
-    return script.split(" ")[0]
+def has(command: str) -> bool:
+    """Whether a command is there; CC may name another C compiler."""
+    if command == "pytest":
+        pythons = filter(shutil.which, (sys.executable, "/usr/bin/python3"))
+        return any(subprocess.run([it, "-c", "import pytest"], stderr=subprocess.DEVNULL).returncode == 0 for it in pythons)
+    return shutil.which(shlex.split(os.environ.get("CC", "cc"))[0] if command == "cc" else command) is not None
 
 
-def missing() -> list[str]:
-    """The commands that aren't there; CC may name another C compiler."""
-    command = lambda it: shlex.split(os.environ.get("CC", it))[0] if it == "cc" else it
-    return [it for it in NEEDS if not shutil.which(command(it))]
-
-
-def told_missing(command: str) -> str:
-    package, scripts = NEEDS[command]
-    effect = f"left out without it: {', '.join(scripts)}" if scripts else "required"
-    return f"check: '{command}' is missing (package: {package}): {effect}"
+def provide(may_install: bool) -> list[str]:
+    """Installs what is missing, where that is asked for or this is root, and returns the commands that still are."""
+    lacking = [it for it in PACKAGES if not has(it)]
+    packages = " ".join(PACKAGES[it] for it in lacking if PACKAGES[it])
+    if packages and shutil.which("apt-get") and (may_install or os.geteuid() == 0):
+        print(f"check: installing {packages}", flush=True)
+        sudo = [] if os.geteuid() == 0 else ["sudo"]
+        for words in (["update"], ["install", "--yes", "--no-install-recommends", *packages.split()]):
+            how = {"stdin": subprocess.DEVNULL, "stdout": subprocess.DEVNULL, "stderr": subprocess.DEVNULL}
+            subprocess.run([*sudo, "apt-get", "--quiet", *QUICKLY, *words], **how)
+        lacking = [it for it in lacking if not has(it)]
+        packages = " ".join(PACKAGES[it] for it in lacking if PACKAGES[it])
+    if packages:
+        print(f"check: missing: {', '.join(it for it in lacking if PACKAGES[it])}: sudo apt-get install {packages}", flush=True)
+    if "rt" in lacking:
+        print('check: missing: rt, the command of the Rattle toolchain (README, "The toolchain")', flush=True)
+    return lacking
 
 
 class Gate:
-    """The steps of this call: what passed and failed so far, and what was left out."""
+    """What passed and failed so far, and what was left out."""
 
-    def __init__(self, steps: Iterable[str], lacking: Iterable[str] = ()) -> None:
-        self.steps, self.lacking = list(steps), {script: command for command in lacking for script in NEEDS[command][1]}
-        self.passed, self.failed, self.left_out, self.wrong = 0, 0, [], []
-        each = ((step, script) for step in self.steps for script in SCRIPTS[step])
-        self.times = Times(it for it in each if path_of(it[1]) not in self.lacking)
-        self.recent: deque[str] = deque(maxlen=REPEATED)
+    def __init__(self, lacking: list[str]) -> None:
+        self.lacking, self.passed, self.failed, self.left_out, self.wrong = lacking, 0, 0, [], []
 
-    def script(self, step: str, script: str, *more: str) -> bool:
-        """Runs a script of the repository, unless a command that it needs is missing, and returns whether it ended well."""
-        path, words = path_of(script), script.split(" ")[1:]
-        if path in self.lacking:
-            self.left_out.append(f"check: {step}: {path} is left out, since '{self.lacking[path]}' is missing")
-            self.times.line(f"{self.left_out[-1]}\n")
-            return True
-        first = [sys.executable] if path.endswith(".py") else []
-        return self.run(step, script, [*first, str(TOP / path), *words, *more])
+    def without(self, script: Script) -> str | None:
+        """What a script lacks, if anything."""
+        lacks = [it for it in script.needs if it in self.lacking]
+        if script.library and not is_current(TOP / "crates" / "hp_c" / "out" / "libhp_c.a", "hp_c"):
+            lacks.append("the proved library (./check all)")
+        return ", ".join(lacks + ["the proved program (./hugepool build)"] * (script.proved and not programs.is_proved()))
 
-    def run(self, step: str, script: str, words: list[str]) -> bool:
-        """Runs a command as this script, and passes its lines on."""
-        return self.timed(step, script, lambda: self.follow(words))
+    def run(self, words: list[str], name: str, is_shown: bool = False) -> bool:
+        """Runs a command, counts what it says of itself, and returns whether it ended well. One that counts nothing passed or failed; one
+        that fails and counts no failure has one. What takes very long is shown as it comes."""
+        began, said = time.monotonic(), ""
+        how = {"stdin": subprocess.DEVNULL, "stdout": subprocess.PIPE, "stderr": subprocess.STDOUT, "text": True, "errors": "replace"}
+        with subprocess.Popen(words, cwd=TOP, **how) as ran:
+            limit = threading.Timer(DAY if is_shown else SECONDS, ran.kill)
+            limit.start()
+            for text in ran.stdout:
+                said += text
+                print(text if is_shown else "", end="", flush=is_shown)
+            limit.cancel()
+        counts = [(int(passed), int(failed)) for passed, failed in COUNTS.findall(said)]
+        passed, failed = (sum(it) for it in zip(*counts)) if counts else (int(not ran.returncode), 0)
+        failed = failed or int(ran.returncode != 0)
+        self.passed, self.failed = self.passed + passed, self.failed + failed
+        self.left_out += re.findall(r"^left out: .*", said, re.M)
+        print(f"check: {name}: {passed} passed, {failed} failed, {time.monotonic() - began:.0f} s", flush=True)
+        if failed:
+            self.wrong.append(f"== {name}\n{said}")
+        return not failed
 
-    def timed(self, step: str, script: str, does: Callable[[], bool]) -> bool:
-        """Runs a script, and keeps its last lines where it fails."""
-        self.recent.clear()
-        before = self.failed
-        with self.times.running(step, script):
-            has_passed = does()
-        if self.failed > before:
-            self.wrong += [f"check: {step}: {script} failed; its last lines:\n", *self.recent]
-        return has_passed
-
-    def lines(self, text: str) -> None:
-        """Prints lines of a script, and recalls the last."""
-        self.recent.extend(text.splitlines(keepends=True))
-        self.times.line(text)
-
-    def follow(self, words: list[str]) -> bool:
-        """Passes a command's lines on, and adds up its lines 'N passed, M failed'. A command that counts nothing is one that passed or
-        failed; one that fails and counts no failure has one."""
-        counts = []
-        with subprocess.Popen(words, cwd=TOP, **PIPED) as ran:
-            for line in ran.stdout:
-                self.lines(line)
-                if made := COUNTS.match(line.rstrip("\n")):
-                    counts.append((int(made[1]), int(made[2])))
-        failed = sum(it for _, it in counts)
-        self.passed += sum(it for it, _ in counts) + (not counts and not ran.returncode)
-        self.failed += failed or int(ran.returncode != 0)
-        return ran.returncode == 0
-
-    def count(self, have_passed: list[bool]) -> bool:
-        """Counts what passed, and returns whether all did."""
-        self.passed += sum(have_passed)
-        self.failed += have_passed.count(False)
-        return all(have_passed)
+    def scripts(self, several: list[Script]) -> None:
+        """Runs scripts side by side, one a processor, and says which run."""
+        self.left_out += [f"left out: {it.words}: it needs {lacks}" for it in several if (lacks := self.without(it))]
+        several = [it for it in several if not self.without(it)]
+        line, left = Line("check", sys.stdout), {it.words for it in several}
+        with ThreadPoolExecutor(os.cpu_count() or 1) as pool:
+            begun = {pool.submit(self.run, command(it.words), it.words): it.words for it in several}
+            while left:
+                line.show(lambda: f"{len(begun) - len(left)} of {len(begun)} scripts are done; left are {', '.join(sorted(left))}")
+                left -= {begun[it] for it in begun if it.done()}
+                time.sleep(0.2)
+            line.clear()
+        for it in as_completed(begun):
+            it.result()
 
     def tell(self) -> int:
-        """Prints what the steps took, what was left out, what failed, and the counts, and returns the status."""
-        told = "".join(f"{it}\n" for it in (*self.times.table(), *self.left_out))
-        self.times.line(f"{told}{''.join(self.wrong)}{self.passed} passed, {self.failed} failed\n")
+        """Prints what was left out, what failed, and the counts, and returns the status."""
+        print("".join([*self.wrong, *(f"{it}\n" for it in self.left_out)]), end="")
+        print(f"{self.passed} passed, {self.failed} failed")
         return 1 if self.failed else 0
 
 
-def ci(gate: Gate, _: list[str]) -> bool:
-    """Where it ends well, the other steps run the programs that were proved and built by it, and later checks prove only what changes."""
-    seen, stamps = Marks(), stamps_of(TOP)
+def command(words: str) -> list[str]:
+    path, *more = words.split()
+    return [*([sys.executable, "-B"] if path.endswith(".py") else []), str(TOP / path), *more]
+
+
+def proofs(gate: Gate, _: list[str]) -> bool:
+    """Where it ends well, the tests run the programs that were proved and built by it."""
     with tempfile.NamedTemporaryFile(prefix="check-began-") as began:
-        if not gate.run("ci", "rt ci", ["rt", "ci"]):
+        print("check: rt ci: every proof from nothing", flush=True)
+        if not gate.run(["rt", "ci"], "rt ci", True):
             return False
+        # (it sets aside what was there before, so these are its own, also where it took them from an earlier run)
+        if program_of("hugepool").is_file():
+            program_of("hugepool").touch()
         own = {**os.environ, "HUGEPOOL_BUILT_SINCE": began.name}
         subprocess.run([TOP / "hugepool", "--help"], env=own, stdout=subprocess.DEVNULL, check=True)
-        is_new = lambda it: it.is_file() and it.stat().st_mtime >= os.stat(began.name).st_mtime
-        for name in filter(lambda it: is_new(programs.program_of(it)), seen.known):
-            programs.note(seen, name)
-    stamp(TOP, stamps)
-    for name in seen.known:
-        seen.note(name, PROOFS)
-        seen.note(name, TESTS)
+        # (what was written meanwhile is newer)
+        if program_of("hp_memory_tests").is_file():
+            os.utime(program_of("hp_memory_tests"), (os.stat(began.name).st_mtime,) * 2)
     return True
 
 
-def edits(gate: Gate, words: list[str]) -> bool:
-    first, *others = SCRIPTS["edits"]
-    if crates_of(TOP).keys() & set(words):
-        return gate.script("edits", first, *words)
-    return all([gate.script("edits", first, *words), *(gate.script("edits", it) for it in others)])
+def tests(gate: Gate, groups: list[str]) -> bool:
+    kind = "proved program" if programs.is_proved() else "program that is compiled without proof (./hugepool build proves it)"
+    print(f"check: the tests run the {kind}: {programs.tested()}", flush=True)
+    gate.scripts([it for group in groups for it in GROUPS[group]])
+    return not gate.failed
 
 
-def quick(gate: Gate, _: list[str]) -> bool:
-    first, *others = SCRIPTS["quick"]
-    return gate.timed("quick", first, lambda: proofs_and_tests(gate)) and all([gate.script("quick", it) for it in others])
+def mutants(gate: Gate, words: list[str]) -> bool:
+    """Runs them with their output, which takes long; and faulty ones, which must be reported."""
+    named = f"gate/mutants.py {' '.join(words)}".strip()
+    has_passed = gate.run(command(named), named, True)
+    return has_passed and (bool(words) or gate.run(command("gate/test_mutants.py"), "gate/test_mutants.py"))
 
 
-def proofs_and_tests(gate: Gate) -> bool:
-    """Checks the format, the proofs and the tests of what changed, and whether each mutant still applies."""
-    seen = Marks()
-    proofs, tests = due(seen)
-    if not gate.follow(format_check(TOP)) or not prove(gate, seen, proofs):
+def library(gate: Gate) -> bool:
+    """Has the library for C proved and built, over libraries that are proved side by side."""
+    built = gate.run(command("launcher/prove.py libraries hp_c"), "the libraries below hp_c", True)
+    return built and gate.run(["env", f"--chdir={TOP / 'crates' / 'hp_c'}", "rt", "lib"], "the library for C")
+
+
+def everything(gate: Gate, _: list[str]) -> bool:
+    """All others rest on what `rt ci` proves, so they are left out where that fails."""
+    if not proofs(gate, []):
+        gate.left_out.append("left out: all tests and mutants, since they rest on what is proved")
         return False
-    have_passed = gate.count(at_once(os.cpu_count() or 1, sorted(tests), lambda name: run_rt(gate, "test", name, seen, [PROOFS, TESTS])))
-    bad = [f"  {name}/{it.name}: {it.why}\n" for name in seen.known for it in mutants_of(TOP / "crates" / name)[1]]
-    gate.lines("".join(bad))
-    gate.failed += len(bad)
-    return have_passed and not bad
+    return all([library(gate), tests(gate, [*GROUPS]), mutants(gate, [])])
 
 
-def format_check(top: Path) -> list[str]:
-    """The command by which `rt ci` refuses files that `rt fmt` would change, for all files at once."""
-    files = [it for part in PARTS for it in sorted(top.glob(f"crates/*/{part}/**/*")) if it.suffix in (".rt", ".antt")]
-    formatter = Path(shutil.which("rt") or "rt").resolve().with_name("rattle")
-    return [str(formatter), "fmt", "--check", *map(str, files)]
-
-
-def due(seen: Marks) -> tuple[set[str], set[str]]:
-    """The crates to prove, and those to test. A check with tests proves the crate as well, so a crate on which no other stands, and
-    which needs no library of its own, is only tested."""
-    tests = {name for name in seen.known if seen.is_due(name, TESTS)}
-    libraries_of = {low for lows in seen.known.values() for low in lows}
-    return {name for name in seen.known if seen.is_due(name, PROOFS)} - (tests - libraries_of), tests
-
-
-def prove(gate: Gate, seen: Marks, names: set[str]) -> bool:
-    """Proves crates, low ones first. Where most have to be proved, the toolchain proves all: it knows how many fit into memory."""
-    gate.times.line(f"{len(names)} of {len(seen.known)} crates are to be proved{': ' if names else ''}{' '.join(sorted(names))}\n")
-    if len(names) > MANY:
-        have_passed = gate.follow(["rt", "all", "check", "--jobs", str(os.cpu_count() or 1)])
-        for name in names if have_passed else ():
-            seen.note(name, PROOFS)
-        return have_passed
-    height = {name: len(names & below(name, seen.known)) for name in names}
-    levels = groupby(sorted(names, key=height.get), height.get)
-    return all(gate.count(at_once(AT_A_TIME, level, lambda name: run_rt(gate, "check", name, seen, [PROOFS]))) for _, level in levels)
-
-
-def at_once(most: int, names: Iterable[str], does: Callable[[str], bool]) -> list[bool]:
-    """Does this for each name, so many at a time."""
-    with ThreadPoolExecutor(most) as pool:
-        return list(pool.map(does, names))
-
-
-def run_rt(gate: Gate, command: str, name: str, seen: Marks, shown: list[str]) -> bool:
-    """Has the toolchain check a crate, or run its tests, and returns whether that passed. Then it has shown this of the crate."""
-    ran = subprocess.run(["rt", command], cwd=TOP / "crates" / name, **PIPED)
-    gate.lines(f"== {name}: {' and '.join(shown)}\n{ran.stdout}")
-    for what in shown if ran.returncode == 0 else ():
-        seen.note(name, what)
-    return ran.returncode == 0
-
-
-def scripts(name: str) -> Callable[[Gate, list[str]], bool]:
-    """A step that runs its scripts, one after the other."""
-    return lambda gate, _: all([gate.script(name, it) for it in SCRIPTS[name]])
-
-
-STEPS = {"ci": ci, "edits": edits, **{it: scripts(it) for it in ("examples", "refusals", "linux", "library")}, "quick": quick}
-
-
-def run_steps(gate: Gate, words: list[str]) -> None:
-    """Runs the steps in their order. All others rest on what `rt ci` proves, so they are left out where that fails."""
-    for step in gate.steps:
-        has_passed = STEPS[step](gate, words if step == "edits" else [])
-        if step == "ci" and not has_passed and len(gate.steps) > 1:
-            gate.left_out.append("check: the other steps are left out, since they rest on what is proved")
-            return
+STEPS: dict[str, Callable[[Gate, list[str]], bool]] = {
+    "all": everything,
+    "proofs": proofs,
+    "mutants": mutants,
+    **{group: lambda gate, _, group=group: tests(gate, [group]) for group in GROUPS},
+}
 
 
 def main(words: list[str]) -> int:
+    may_install = "--install" in words
+    words = [it for it in words if it != "--install"]
     if words[:1] in (["-h"], ["--help"], ["help"]):
         signal.signal(signal.SIGPIPE, signal.SIG_DFL)
         print(__doc__, end="")
         return 0
-    if words and words[0] not in [*STEPS, "all"] or words[1:] and words[0] != "edits":
+    if words and words[0] not in STEPS or words[1:] and words[0] != "mutants":
         print(__doc__.split("\n\n", 1)[1], end="", file=sys.stderr)
         return 2
-    lacking = missing()
-    print("".join(f"{told_missing(it)}\n" for it in lacking), end="", flush=True)
-    if not all(NEEDS[it][1] for it in lacking):
+    lacking = provide(may_install)
+    if "rt" in lacking or "find" in lacking:
         return 127
-    # (no step may judge by a program that isn't proved)
-    os.environ["HUGEPOOL"] = "proved"
-    is_whole = words[:1] in ([], ["all"])
-    gate = Gate(WHOLE if is_whole else words[:1], lacking)
-    run_steps(gate, ["--all"] if words == ["all"] else words[1:])
+    # (no script has ./hugepool prove anything)
+    os.environ["HUGEPOOL"] = "now"
+    gate, step = Gate(lacking), STEPS[words[0]] if words else lambda gate, _: tests(gate, [*GROUPS])
+    step(gate, words[1:])
     return gate.tell()
 
 

@@ -1,26 +1,37 @@
 #!/usr/bin/env python3
-"""Says whether each path, link, command and public call that a document names is there.
+"""Says whether each path, link, command and public call that a document names is there; and whether commands print what documents show.
+
+usage: gate/documents.py            the names
+       gate/documents.py --shown    the commands
 
 A document is a file *.md outside of the crates. Looked at are the words between backquotes and the lines of commands in blocks:
 a path has to be the end of one in the repository; a link has to lead to a file and a heading; `./hugepool` has to have the command and
 its options, `./check` the step; and of a call `hp_frames::Bank::take` or `hp_frames::Bank::{take, free}` each name has to be declared in
 that crate. In a table whose rows begin with crates, the calls of the last column leave the crate out: they have to be declared in one of
-the row's crates. The blocks of docs/MACHINE.md have to stand in the specs of the machine, but for white space; and its table of phases in Linux
-has to be that of hp_words::linux_name.
+the row's crates. The blocks of docs/MACHINE.md have to stand in the specs of the machine, but for white space; its table of phases in Linux
+has to be that of hp_phases::linux_name, and each crate has to have a row in docs/ARCHITECTURE.md.
+
+A shown command is a line `    $ COMMAND` of README.md, docs/*.md or examples/README.md; the indented lines below it are its output, with
+the complaints. A line `..` stands for one line or more that the page leaves out. Run are commands that print the same each time, with
+filters, and all of two pages; the others are listed.
 """
 from __future__ import annotations
 
 import os
 import re
+import shlex
+import signal
+import subprocess
 import sys
+from concurrent.futures import ThreadPoolExecutor
 from fnmatch import fnmatch
 from functools import cache
 from pathlib import Path
-from typing import Iterator
+from typing import Iterator, NamedTuple
 
 import check
-from programs import report
-from scratch import TOP, crates_of
+from programs import TOP, crates_of, is_proved, report, run, sources_of, tested
+from rows import first_difference
 
 # what documents tell of the kernel's sources, and of the machine
 ELSEWHERE = ("mm/", "fs/", "Documentation/", "~", "/")
@@ -31,6 +42,19 @@ COMMAND = re.compile(r"(?:^|[|;&$] *)(\./[\w./-]+|hugepool)(?= |$)([^|;&#]*)")
 OPTION = re.compile(r"--([\w-]+)")
 LINK = re.compile(r"\]\(([^()\s]+)\)")
 ROW_OF_CRATES = re.compile(r"`\w+`(?:, `\w+`)*")
+PAGES = ("README.md", "docs/*.md", "examples/README.md")
+# the pages all of whose commands are run
+WHOLE = ("docs/TRACES.md", "docs/EXPLORING.md")
+# programs with the first words behind them with which they print the same each time, and what may stand beside them
+PRINTING = {
+    "./hugepool": {"explain", "replay", "check", "explore", "schedule", "find", "minimize", "draw", "work"},
+    "conformance/live/check.py": {"--account"},
+}
+BESIDE = {"sed", "head", "tail", "grep", "sort", "uniq", "printf", "echo", "yes", "for", "done", "}", ""}
+BREAKS = {"|", ";", "&&", "||", "do", "{"}
+LEFT_OUT_LINES = ".."
+# what a command may take without a proof, and with one
+SECONDS = (10, 300)
 
 
 @cache
@@ -52,7 +76,16 @@ def is_path(path: str) -> bool:
 
 @cache
 def source_of(crate: str) -> str:
-    return "".join(file.read_text(encoding="utf-8") for file in sorted((TOP / "crates" / crate / "src").rglob("*.rt")))
+    return "".join(sources_of([crate]).values())
+
+
+@cache
+def words_of_help() -> tuple[frozenset[str], frozenset[str]]:
+    """The commands and the options that the program's help names."""
+    whole = run(tested(), "--help").out.partition("Commands:")[2]
+    commands = frozenset(re.findall(r"^  ([a-z]+) ", whole, re.M))
+    helps = "".join(run(tested(), f"{it} --help").out for it in commands - {"help"})
+    return commands, frozenset(OPTION.findall(helps))
 
 
 def is_declared(crate: str, name: str) -> bool:
@@ -64,7 +97,7 @@ def is_declared(crate: str, name: str) -> bool:
 def call_faults(text: str) -> Iterator[str]:
     """The names in calls of the crates that aren't declared."""
     for crate, inner, several in ((it[1], it[2], it[3]) for it in CALL.finditer(text)):
-        if crate not in crates_of(TOP):
+        if crate not in crates_of():
             yield f"there is no crate {crate}"
             continue
         last = re.search(rf"{crate}{inner}::(\w+)", text)
@@ -83,7 +116,7 @@ def table_faults(text: str) -> Iterator[str]:
         if line.startswith("| |"):
             cells = ["", *cells]
         if len(cells) != 3 or cells[0]:
-            crates = [it for it in re.findall(r"\w+", cells[0]) if it in crates_of(TOP)] if cells and ROW_OF_CRATES.fullmatch(cells[0]) else []
+            crates = [it for it in re.findall(r"\w+", cells[0]) if it in crates_of()] if cells and ROW_OF_CRATES.fullmatch(cells[0]) else []
         for name in re.findall(r"[A-Za-z]\w*", " ".join(re.findall(r"`([^`]+)`", cells[2]))) if crates and len(cells) == 3 else []:
             if not any(is_declared(it, name) for it in crates):
                 yield f"{', '.join(crates)}: none declares {name}"
@@ -95,23 +128,17 @@ def command_faults(line: str) -> Iterator[str]:
         asked = words.split()
         first = asked[0] if asked else ""
         if program in ("./hugepool", "hugepool"):
-            yield from hugepool_faults(first, words)
+            commands, options = words_of_help()
+            is_known = not re.fullmatch(r"[a-z]+", first) or first in {*commands, "build"}
+            yield from [] if is_known else [f"hugepool has no command {first}"]
+            yield from (f"hugepool has no option --{it}" for it in OPTION.findall(words) if it not in {*options, "help", "version"})
         elif not is_path(program):
             yield f"there is no {program}"
-        elif program == "./check" and first not in ("", "--help", "all", *check.STEPS):
+        elif program == "./check" and first not in ("", "--help", "--install", *check.STEPS):
             yield f"./check has no step {first}"
-        elif first == "edits" and len(asked) > 1 and not (asked[1].startswith("-") or asked[1] in ("CRATE", *crates_of(TOP))):
+        elif program == "./check" and len(asked) > 1 and not (asked[1].startswith("-") or asked[1] in ("CRATE", *crates_of())):
             yield f"there is no crate {asked[1]}"
         yield from (f"there is no {it}" for it in re.findall(r"< ([\w.-]+/\S+)", words) if not is_path(it))
-
-
-def hugepool_faults(command: str, words: str) -> Iterator[str]:
-    known = set(re.findall(r'Command::new\(alloc, "(\w+)"\)', source_of("hugepool")))
-    if command and re.fullmatch(r"[a-z]+", command) and command not in {*known, "help", "build"}:
-        yield f"hugepool has no command {command}"
-    for option in OPTION.findall(words):
-        if option not in ("help", "version") and f'"{option}"' not in source_of("hugepool"):
-            yield f"hugepool has no option --{option}"
 
 
 def faults_in(text: str) -> Iterator[str]:
@@ -119,7 +146,7 @@ def faults_in(text: str) -> Iterator[str]:
     for span in re.findall(r"`([^`\n]+)`", re.sub(r"^```.*?^```", "", text, flags=re.M | re.S)):
         yield from command_faults(span)
         yield from call_faults(span)
-        if PATH.fullmatch(span) and not (span.startswith(ELSEWHERE) or span.endswith("/out") or is_path(span)):
+        if PATH.fullmatch(span) and not (span.startswith(ELSEWHERE) or "out" in span.split("/") or is_path(span)):
             yield f"there is no {span}"
     yield from table_faults(text)
     for line in text.splitlines():
@@ -163,34 +190,86 @@ def quotation_faults(text: str) -> Iterator[str]:
         yield from (f"no spec has {it.strip()[:60]}" for it in pieces if flat(it) not in said)
 
 
-def phase_names(text: str) -> list[tuple[str, str]]:
-    """The rows of the table of phases in Linux, as the code spells them."""
+def phase_names(text: str) -> list[tuple[str, ...]]:
+    """The rows of the tables of phases in Linux: newer and older names, and those that the locks of a call decide."""
     table = text.partition("### The phases in Linux")[2].partition("\n#")[0]
-    return [(phase, names.replace("`", "")) for phase, names in re.findall(r"^\| ([a-z]+) \| (.*`) \|$", table, re.M)]
+    most = re.findall(r"^\| ([a-z]+) \| `(\w+)` \| (?:`(\w+)` )?\|$", table, re.M)
+    return most + re.findall(r"^\| ([a-z]+) \| [^|`]* \| `(\w+)` \|$", table, re.M)
 
 
-def phases_in_code() -> list[tuple[str, str]]:
-    """The arms of hp_words::linux_name."""
-    arms = re.findall(r'Phase::(\w+) => "([^"]+)"', (TOP / "crates" / "hp_words" / "src" / "linux.rt").read_text(encoding="utf-8"))
-    return [(phase.lower(), name) for phase, name in arms]
+def phases_in_code() -> list[tuple[str, ...]]:
+    """The rows of hp_phases::linux_name's table, and its arms."""
+    sources = TOP / "crates" / "hp_phases" / "src"
+    table, arms = ((sources / it).read_text(encoding="utf-8") for it in ("table.rt", "linux.rt"))
+    rows = re.findall(r'phase: Phase::(\w+),\s+line: .*\s+linux_6_1: "(\w+)",\s+linux_6_18: "(\w+)",', table)
+    most = [(phase.lower(), new, old if old != new else "") for phase, old, new in rows]
+    others = re.findall(r'\(Phase::(\w+), Locks::\w+\) => "(\w+)"', arms)
+    return most + sorted((phase.lower(), name) for phase, name in others)
 
 
-def unlisted(text: str) -> set[str]:
-    """The crates that have no row in docs/ARCHITECTURE.md."""
-    return set(crates_of(TOP)) - set(re.findall(r"^\| [^|]*\| `(\w+)` \|", text, re.M))
+class Shown(NamedTuple):
+    page: str
+    command: str
+    lines: list[str]
 
 
-# a document of which each line is wrong
-WRONG = """`docs/NOT_THERE.md` `hp_frames::Bank::not_there` `hp_not_there::Bank` `hp_frames::Bank::{take, not_there}`
-    ./hugepool raplay < examples/map-four-of-four.trace
-    ./hugepool race --not-there
-    ./hugepool replay < examples/not-there.trace
-    ./check not_there
-    ./bench/not-there.sh
-| `hp_frames`, `hp_table` | A promise. | `Bank::{take, not_here}` |
-| | Another. | calls of `Space`; `not_here_either` |
-[a page](docs/NOT_THERE.md), [a heading](docs/PROVED.md#not-there)
-"""
+def shown_in(page: str, text: str) -> Iterator[Shown]:
+    """The commands of a page, each with the lines below it."""
+    found: Shown | None = None
+    for line in [*text.splitlines(), ""]:
+        if line.startswith("    $ ") or not line.startswith("    "):
+            if found:
+                yield found
+            found = Shown(page, line[6:], []) if line.startswith("    $ ") else None
+        elif found:
+            found.lines.append(line[4:])
+
+
+def is_run(shown: Shown) -> bool:
+    """Whether a command prints the same each time: each part begins with a program and words that do."""
+    lexer = shlex.shlex(shown.command, posix=True, punctuation_chars=True)
+    lexer.whitespace_split = True
+    parts: list[list[str]] = [[]]
+    for word in lexer:
+        parts += [[]] if word in BREAKS else []
+        parts[-1] += [] if word in BREAKS else [word]
+    own = [it for it in parts if it and it[0] in PRINTING]
+    return shown.page in WHOLE or bool(own) and all(it[1] in PRINTING[it[0]] if it in own else not it or it[0] in BESIDE for it in parts)
+
+
+def agree(printed: list[str], wanted: list[str]) -> bool:
+    """Whether lines are those of a page, where `..` is one line or more."""
+    if LEFT_OUT_LINES not in wanted:
+        return printed == wanted
+    at = wanted.index(LEFT_OUT_LINES)
+    return printed[:at] == wanted[:at] and any(agree(printed[k:], wanted[at + 1:]) for k in range(at + 1, len(printed) + 1))
+
+
+def printed_by(command: str) -> list[str] | None:
+    """What a command prints, in a shell at the top; nothing where it doesn't end."""
+    own = {"env": {**os.environ, "HUGEPOOL": "now"}, "stdin": subprocess.DEVNULL, "stdout": subprocess.PIPE}
+    with subprocess.Popen(["bash", "-o", "pipefail", "-c", f"exec 2>&1\n{command}\n:"], cwd=TOP, start_new_session=True, **own) as ran:
+        try:
+            return ran.communicate(timeout=SECONDS[is_proved()])[0].decode(errors="replace").splitlines()
+        except subprocess.TimeoutExpired:
+            os.killpg(ran.pid, signal.SIGKILL)
+            return None
+
+
+def shown_tries() -> Iterator[tuple[str, bool]]:
+    pages = sorted(str(file.relative_to(TOP)) for page in PAGES for file in TOP.glob(page))
+    shown = [it for page in pages for it in shown_in(page, (TOP / page).read_text(encoding="utf-8"))]
+    own, slow = [it for it in shown if is_run(it)], 0
+    yield "some are run", bool(own)
+    with ThreadPoolExecutor(2) as pool:
+        for it, printed in zip(own, pool.map(lambda it: printed_by(it.command), own)):
+            if printed is None and not is_proved():
+                slow += 1
+                continue
+            wrong = printed[:3] if printed and LEFT_OUT_LINES in it.lines else first_difference(printed or ["nothing"], it.lines)
+            yield f"{it.page}: {it.command}: {wrong}", printed is not None and agree(printed, it.lines)
+    print(f"shown: {len(own) - slow} commands are run, {len(shown) - len(own)} aren't")
+    print(f"left out: {slow} long commands that documents show: they need the proved program\n" if slow else "", end="")
 
 
 def tries() -> Iterator[tuple[str, bool]]:
@@ -201,17 +280,12 @@ def tries() -> Iterator[tuple[str, bool]]:
         yield f"{file.relative_to(TOP)}: {'; '.join(faults)}", not faults
     machine = (TOP / "docs" / "MACHINE.md").read_text(encoding="utf-8")
     yield f"docs/MACHINE.md quotes the specs: {'; '.join(quotation_faults(machine))}", not any(quotation_faults(machine))
-    for old, new in (("≤ s.resv)", "< s.resv)"), ("≡ actives s", "≡ actives n")):
-        yield f"in a quotation {new!r} is noticed", len(list(quotation_faults(machine.replace(old, new)))) == 1
-    named = phase_names(machine)
-    yield "docs/MACHINE.md has linux_name's table", named == phases_in_code() != []
-    yield "another name of a phase is noticed", phase_names(machine.replace("| `region_chg` |", "| `region_add` |")) != named
+    named, wanted = phase_names(machine), phases_in_code()
+    yield "docs/MACHINE.md has linux_name's table", named[:27] + sorted(named[27:]) == wanted and len(wanted) == 31
     architecture = (TOP / "docs" / "ARCHITECTURE.md").read_text(encoding="utf-8")
-    yield f"docs/ARCHITECTURE.md lists all crates: {unlisted(architecture)}", not unlisted(architecture)
-    yield "one that it doesn't list is noticed", unlisted(architecture.replace("| `hp_laws` |", "| |")) == {"hp_laws"}
-    noticed = len([*faults_in(WRONG), *link_faults(TOP / "README.md", WRONG)])
-    yield f"of thirteen wrong names {noticed} are noticed", noticed == 13
+    unlisted = set(crates_of()) - set(re.findall(r"^\| [^|]*\| `(\w+)` \|", architecture, re.M))
+    yield f"docs/ARCHITECTURE.md lists all crates: {unlisted}", not unlisted
 
 
 if __name__ == "__main__":
-    sys.exit(report("documents", tries()))
+    sys.exit(report("shown", shown_tries()) if sys.argv[1:] == ["--shown"] else report("documents", tries()))

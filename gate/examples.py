@@ -3,10 +3,9 @@
 
 Each trace of examples/ and of the folders in it is replayed: NAME.out has the output, NAME.err and NAME.status the complaint and the
 status, where they aren't nothing and 0. NAME.explained is what is written where the trace is explained, and docs/pictures/NAME.svg what
-is drawn of it (pictures.py makes the others there).
+is drawn of it.
 The lines of JSON of each trace say what its rows say (objects.py).
-Each `$` line of docs/TRACES.md is run by a shell, and has to print the lines below it. All these, and those of
-examples/commands/, are rows (rows.py), and each row has to notice changes of what it compares.
+All these, and those of examples/commands/, are rows (rows.py).
 Each script is explored by the words behind each `#` of the file NAME.lines beside it, and its lines are compared with those
 below the words; and the schedule of each first run is replayed, and ends with the counts of that run's line. Each script is
 raced some times in threads, too, whole, in parts, and where steps are denied and tasks killed: every race has to be closed.
@@ -15,30 +14,30 @@ from __future__ import annotations
 
 import os
 import re
-import shlex
 import sys
-import tempfile
 from collections import Counter
+from concurrent.futures import ThreadPoolExecutor
 from pathlib import Path
 from typing import Iterator, NamedTuple
 
 import objects
-import pictures
 import rows
-from programs import Ran, built, report, run
-from rows import CHANGES, Row, first_difference
-from scratch import TOP
-from shown import BY_EXAMPLES, shown_in
+from programs import TOP, Ran, is_proved, report, run, tested
+from rows import Row, first_difference
 
 FOLDER = TOP / "examples"
 COMMANDS = FOLDER / "commands"
 PICTURES = TOP / "docs" / "pictures"
-SHELL = Path("/bin/bash")
 RACES = 20
 # how the journal of a race is cut, or that it isn't
 CUTS = ("", *(f" --cut {calls}" for calls in range(1, 7)))
 # by which chances steps are denied and tasks killed in some of the races
 CHANCES = " --deny 50 --kill 200"
+# the bytes of an input that the program without proof reads too slowly
+LARGE = 100_000
+
+
+RACED = re.compile(r"run \d+ closed entries \d+ free \d+ resv \d+")
 
 
 class Need(NamedTuple):
@@ -47,9 +46,6 @@ class Need(NamedTuple):
     task: str
     number: int
     ended: dict[str, int]
-
-
-RACED = re.compile(r"run \d+ closed entries \d+ free \d+ resv \d+")
 
 
 def names(ending: str) -> set[str]:
@@ -63,11 +59,6 @@ def text(name: str, ending: str, otherwise: str = "") -> str:
     return file.read_bytes().decode() if file.is_file() else otherwise
 
 
-def drawings() -> list[Path]:
-    """The pictures that are drawn of traces: all but those that a script makes of the repository's texts."""
-    return sorted(it for it in PICTURES.glob("*.svg") if it.name not in pictures.made())
-
-
 def trace_rows() -> Iterator[tuple[str, Row]]:
     """The traces with what stands beside them."""
     for name in sorted(names(".trace")):
@@ -75,16 +66,8 @@ def trace_rows() -> Iterator[tuple[str, Row]]:
         yield name, Row(name, ["replay"], status, trace, stdout=text(name, ".out"), stderr=text(name, ".err"))
         if name in names(".explained"):
             yield name, Row(name, ["explain"], stdin=trace, stdout=text(name, ".explained"))
-    for picture in drawings():
+    for picture in sorted(PICTURES.glob("*.svg")):
         yield picture.name, Row(picture.stem, ["draw"], stdin=text(picture.stem, ".trace"), stdout=picture.read_bytes().decode())
-
-
-def session_rows(document: str) -> Iterator[tuple[str, Row]]:
-    """The commands behind each `$` of a document's blocks, with the lines below them, for a shell."""
-    for it in shown_in(document, (TOP / document).read_text(encoding="utf-8")):
-        does = f"cd {shlex.quote(str(TOP))} && exec 2>&1\n{it.command}\n:"
-        words = shlex.join(["-o", "pipefail", "-c", does])
-        yield f"{document}: {it.command}", Row(it.command, [words], stdout="".join(f"{line}\n" for line in it.lines))
 
 
 def unlisted(listing: str) -> list[str]:
@@ -100,7 +83,6 @@ def listings() -> Iterator[tuple[str, bool]]:
     yield "each .explained has its trace", names(".explained") <= names(".trace")
     listing = text("README", ".md")
     yield f"examples/README.md lists each example: {unlisted(listing)}", not unlisted(listing)
-    yield "one that it doesn't list is noticed", unlisted(listing.replace("`place-denied`", "")) == ["scenarios/place-denied"]
 
 
 def output(program: Path, words: str, read: str) -> str:
@@ -129,15 +111,8 @@ def script_tries(program: Path, name: str) -> Iterator[tuple[str, bool]]:
         fault = race_fault(ran)
         yield f"{name}: race{options}: {fault}", not fault
     if script.startswith("script "):
-        yield from waits_tries(program, name, script)
-
-
-def waits_tries(program: Path, name: str, script: str) -> Iterator[tuple[str, bool]]:
-    """Whether races as traces keep the script's waits; and a trace in which a call doesn't wait is noticed."""
-    needs, traces = needs_of(script), [output(program, "race --trace", script) for _ in range(RACES)]
-    yield f"{name}: races keep its waits", all(keeps(needs, it) for it in traces)
-    waiting = next(it for it in needs if it.ended)
-    yield f"{name}: a call that doesn't wait is noticed", not any(keeps(needs, without_wait(it, waiting)) for it in traces)
+        needs, traces = needs_of(script), [output(program, "race --trace", script) for _ in range(RACES)]
+        yield f"{name}: races keep its waits", any(it.ended for it in needs) and all(keeps(needs, it) for it in traces)
 
 
 def needs_of(script: str) -> list[Need]:
@@ -172,14 +147,6 @@ def steps_on(events: list[tuple[str, str]], task: str) -> bool:
     return next((word for word, other in events if other == task), "begin") in ("step", "deny")
 
 
-def without_wait(trace: str, need: Need) -> str:
-    """A trace in which that call begins before all else."""
-    header, *events = trace.splitlines()
-    begins = [place for place, line in enumerate(events) if line.startswith(f"begin {need.task} ")]
-    early = events.pop(begins[need.number])
-    return "\n".join([header, early, *events])
-
-
 def race_fault(ran: Ran) -> str | None:
     """What is wrong with a script's races, if anything is: each has a line of a closed race with its number."""
     lines = ran.out.splitlines()
@@ -189,40 +156,25 @@ def race_fault(ran: Ran) -> str | None:
     return None
 
 
-def races_noticed() -> Iterator[tuple[str, bool]]:
-    """Whether wrong races are noticed."""
-    right = Ran(0, "".join(f"run {k} closed entries 1 free 1 resv 0\n" for k in range(RACES)), "")
-    yield "races that are closed pass", race_fault(right) is None
-    for what in ("another status", "a byte more", "its last line lost", "its first line lost"):
-        yield f"of races {what} is noticed", race_fault(CHANGES[what][0](right)) is not None
-    for line in ("run 7 astray", "run 8 closed"):
-        yield f"of races {line!r} is noticed", race_fault(right._replace(out=right.out.replace("run 7 closed", line))) is not None
+def of_trace(program: Path, name: str) -> Iterator[tuple[str, bool]]:
+    return objects.tries(program, name, text(name, ".trace")) if not text(name, ".status").strip("0\n") else iter(())
 
 
-def tries(program: Path, room: Path) -> Iterator[tuple[str, bool]]:
+def tries(program: Path, pool: ThreadPoolExecutor) -> Iterator[tuple[str, bool]]:
     """What is tried, and whether it went as it should."""
     yield from listings()
-    by_program = {program: [*trace_rows(), *rows.rows_below(COMMANDS)], SHELL: [it for name in BY_EXAMPLES for it in session_rows(name)]}
-    for runs, several in by_program.items():
-        yield f"there are rows for {runs.name}", bool(several)
-        for name, row in several:
-            yield from rows.tries(runs, name, row)
-    for name in sorted(names(".trace")):
-        if not text(name, ".status").strip("0\n"):
-            yield from objects.tries(program, name, text(name, ".trace"))
-    yield "pictures are drawn", bool(drawings())
-    for name in sorted(names(".script")):
-        yield from script_tries(program, name)
-    yield from races_noticed()
-    yield from rows.wrongs_noticed(program, room / "hugepool", COMMANDS)
-
-
-def main() -> int:
-    # (the first call builds the program, which proves it; an unproved one isn't asked)
-    os.environ["HUGEPOOL"] = "proved"
-    with tempfile.TemporaryDirectory(prefix="examples-") as room:
-        return report("examples", tries(built("hugepool"), Path(room)))
+    several = [*trace_rows(), *rows.rows_below(COMMANDS)]
+    yield "there are rows", bool(several)
+    large = [it for it in several if len(it[1].read()) > LARGE and not is_proved()]
+    print(f"left out: {len(large)} rows of large inputs: they need the proved program\n" if large else "", end="")
+    several = [it for it in several if it not in large]
+    begun = [pool.submit(lambda name=name: [*script_tries(program, name)]) for name in sorted(names(".script"))]
+    begun += [pool.submit(lambda it=it: [*rows.tries(program, *it)]) for it in several]
+    begun += [pool.submit(lambda name=name: [*of_trace(program, name)]) for name in sorted(names(".trace"))]
+    for it in begun:
+        yield from it.result()
 
 
 if __name__ == "__main__":
-    sys.exit(main())
+    with ThreadPoolExecutor(os.cpu_count() or 1) as lanes:
+        sys.exit(report("examples", tries(tested(), lanes)))

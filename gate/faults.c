@@ -7,7 +7,7 @@
  * Where FAULT_GROWTH is -1 it gets 's' for each thread that is started.
  * FAULT_MEET: so many threads meet, three times: where each but the one that is started last, which doesn't begin before, has let others go
  * first (sched_yield) TURNS times, and twice where each of all does so again. FAULT_TOLD gets 'm' when they have, and 'x' where some don't
- * come within SECONDS; nobody is held any more then. FAULT_AFTER: so many threads are started before.
+ * come within FAULT_SECONDS, or else SECONDS; nobody is held any more then. FAULT_AFTER: so many threads are started before.
  */
 #define _GNU_SOURCE
 #include <dlfcn.h>
@@ -109,7 +109,7 @@ ssize_t write(int file, const void *bytes, size_t count) {
     return file == STDOUT_FILENO && fails(WRITE, 'w', ENOSPC) ? -1 : __write(file, bytes, count);
 }
 
-enum { TURNS = 100, SECONDS = 10 };
+enum { TURNS = 100, SECONDS = 120 };
 
 /* How many threads were started, how many are at this meeting, how many meetings were and how many are left. */
 static long started, there, met, left = 3;
@@ -122,7 +122,7 @@ static _Thread_local int turns;
 static void meet(void) {
     struct timespec end;
     clock_gettime(CLOCK_REALTIME, &end);
-    end.tv_sec += SECONDS;
+    end.tv_sec += number("FAULT_SECONDS", SECONDS);
     long before = met;
     there += 1;
     if (there == meeting) {

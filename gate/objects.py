@@ -106,39 +106,8 @@ def calls_agree(program: Path, trace: str, objects: list[Object]) -> bool:
     return True
 
 
-def changes(of: Any) -> Iterator[Any]:
-    """Copies of an object in each of which one value is changed or one key is lost."""
-    if isinstance(of, dict):
-        for key, value in of.items():
-            yield {other: it for other, it in of.items() if other != key}
-            yield from ({**of, key: it} for it in changes(value))
-    elif isinstance(of, list):
-        yield from ([*of[:k], it, *of[k + 1:]] for k in range(len(of)) for it in changes(of[k]))
-    else:
-        yield f"{of}x" if isinstance(of, str) else 1 if of is None else of + 1
-
-
-def is_noticed(objects: list[Object], header_line: str, explained: str) -> bool:
-    try:
-        return not says(objects, header_line, explained)
-    except (KeyError, TypeError):
-        return True
-
-
-def unnoticed(objects: list[Object], header_line: str, explained: str) -> list[str]:
-    """The changed objects that still say the same. (Where a call stands behind an event is compared elsewhere, as is what is owed.)"""
-    apart = {"at", "holds", "wants", "owes"}
-    found = []
-    for k, it in enumerate(objects):
-        for changed in changes({key: value for key, value in it.items() if key not in apart}):
-            several = [*objects[:k], {**{key: it[key] for key in apart & set(it)}, **changed}, *objects[k + 1:]]
-            if not is_noticed(several, header_line, explained):
-                found.append(json.dumps(changed))
-    return found
-
-
 def tries(program: Path, name: str, trace: str) -> Iterator[tuple[str, bool]]:
-    """What is tried with a trace that can be read; a close look takes a run for each of its lines, and tries changes."""
+    """What is tried with a trace that can be read; a close look takes a run for each of its lines."""
     written, explained = run(program, "explain --json", trace).out, run(program, "explain --linux --compact", trace).out
     objects, header_line = objects_of(written), trace.split("\n", 1)[0]
     yield f"{name}: explain --json says what explain says", says(objects, header_line, explained)
@@ -148,5 +117,3 @@ def tries(program: Path, name: str, trace: str) -> Iterator[tuple[str, bool]]:
     yield f"{name}: no word of them can end the page's data", "<" not in written
     if name in CLOSE:
         yield f"{name}: each call stands where the explanation up to it ends", calls_agree(program, trace, objects)
-        left = unnoticed(objects, header_line, explained)
-        yield f"{name}: changed objects are noticed: {left[:1]}", not left

@@ -1,9 +1,15 @@
 #!/usr/bin/env python3
-"""Writes the modules of crates/hp_page/src/ that hold what stands before and behind the data of a page, out of the page's HTML, CSS and
-JavaScript in crates/hp_page/page/.
+"""Writes what is made of the repository's own texts, or compares it.
 
-usage: gate/page.py           says whether they are what it would write, and tries the page's functions that read a run (needs node)
+usage: gate/page.py           says whether files are what it would write, and tries the page's functions that read a run (needs node)
        gate/page.py --write   writes them
+
+docs/INDEX.md has of each operation its phases as a graph, and of each phase its row, the function that does it, the lemma that says what
+it writes, and its mutants. The graph is read from the rows in crates/hp_machine/specs, and not from the tables of docs/MACHINE.md: the
+contracts of the code cite the rows. A row is read as far as its outcomes go (`Goes`, `Ends`, `Waits`), through the rows that operations
+share (Parts.antt).
+
+The modules of crates/hp_page/src that hold a page's head and tail are made of the page's HTML, CSS and JavaScript in crates/hp_page/page/.
 """
 from __future__ import annotations
 
@@ -11,12 +17,42 @@ import re
 import shutil
 import subprocess
 import sys
+from functools import cache
+from typing import Iterator, NamedTuple
 
-from scratch import TOP
-from written import write_or_compare
+from edit import Function, mutants_of
+from programs import TOP
 
-CRATE = TOP / "crates" / "hp_page"
-PAGE, SOURCES = CRATE / "page", CRATE / "src"
+CRATES, INDEX = TOP / "crates", TOP / "docs" / "INDEX.md"
+# the crate whose code does an operation's steps
+STEPS = {
+    **dict.fromkeys(("touch", "map", "alloc"), "hp_fault"),
+    **dict.fromkeys(("punch", "truncate", "unmap", "exit"), "hp_remove"),
+}
+DID = {"exit": "UnmapDid"}
+HEAD = """# Where each phase is
+
+Of each operation the graph of its phases, and a line for each phase: its row, its function, the
+lemma that says what the row writes, and its mutants.
+
+An arrow shows where a step may lead, with the answer that the call carries from there. A phase's box
+has what a step waits for, and the answers with which the call ends. "May want memory" means that a
+step that is denied memory may lead elsewhere. The rows are the source of the graphs:
+
+- rows: `crates/hp_machine/specs/`;
+- functions: `crates/hp_fault/src/` or `crates/hp_remove/src/`;
+- lemmas: `crates/hp_laws/proofs/`. `Fits.antt` there proves that each write keeps the invariant;
+- mutants: `must-fail/` or `edits/` of the function's crate. The prover must reject each.
+
+`gate/page.py --write` writes this page.
+"""
+SPECS = CRATES / "hp_machine" / "specs"
+DEFINITION = re.compile(r"^(\w+Row)((?: \w+)+) =(.*?)(?=\n\n|\Z)", re.M | re.S)
+OUTCOMES = ("Goes", "Ends", "Waits")
+# what a row's step waits for, by the function of the pool that it looks at
+HOLDERS = {"s.locks": "the file lock", "s.slots": "the slot"}
+CARRIED = {"p.answer", "carried"}
+PAGE, SOURCES = CRATES / "hp_page" / "page", CRATES / "hp_page" / "src"
 # what stands where page.html says {{..}}
 PIECES = {"style": ["page.css"], "help": ["help.html"]}
 SCRIPT, DATA = "{{script}}", "{{run}}"
@@ -29,7 +65,6 @@ MODULES = {
     "tail": "what stands behind the data",
 }
 COUNTS = re.compile(r"^(\d+) passed, (\d+) failed$", re.MULTILINE)
-
 TEXT = """//! Of a page, {what}. `gate/page.py` makes it of the files in `page/`.
 
 /// Of a page, {what}.
@@ -37,6 +72,193 @@ pub(crate) const {name}: &str ={gap}r###"{text}"###;
 """
 # `rt fmt` breaks a constant's line behind its `=` where it is wider
 WIDE = 100
+Term = list  # of words and terms
+
+
+class Row(NamedTuple):
+    """What a step in a phase may come to: phases, each with the answers carried there; answers; what it waits for; whether it asks
+    for memory, and whether it notices a kill."""
+
+    goes: dict[str, list[str]]
+    ends: list[str]
+    waits: list[str]
+    asks: bool
+
+
+def parse(source: str) -> Term:
+    """A text as words, with a list for what stands between brackets."""
+    open_terms: list[Term] = [[]]
+    for word in re.findall(r"[(){}]|λ|;|[^\s(){};]+", source):
+        if word in "({":
+            open_terms.append([])
+        elif word in ")}":
+            closed = open_terms.pop()
+            open_terms[-1].append(closed)
+        else:
+            open_terms[-1].append(word)
+    return open_terms[0]
+
+
+@cache
+def definitions(file: str) -> dict[str, tuple[list[str], Term]]:
+    """The rows of a file, each with its parameters and its right side."""
+    text = (SPECS / file).read_text(encoding="utf-8")
+    return {name: (names.split(), parse(body)) for name, names, body in DEFINITION.findall(text)}
+
+
+def words(term: Term | str) -> Iterator[str]:
+    if isinstance(term, str):
+        yield term
+    else:
+        for it in term:
+            yield from words(it)
+
+
+def put_in(term: Term | str, given: dict[str, Term | str]) -> Term | str:
+    return given.get(term, term) if isinstance(term, str) else [put_in(it, given) for it in term]
+
+
+def factors(term: Term) -> list[Term]:
+    """The parts of a term that stand between ×, without what it binds before."""
+    if "in" in term:
+        term = term[len(term) - term[::-1].index("in"):]
+    if term[:1] == ["λ"]:
+        term = term[2:]
+    cuts = [at for at, it in enumerate(term) if it == "×"]
+    return [term[a + 1:b] for a, b in zip([-1, *cuts], [*cuts, len(term)])]
+
+
+def outcomes(term: Term | str, tested: Term | str = "") -> Iterator[tuple[str, Term | str, Term | str]]:
+    """The outcomes in a row's right side: the word, what it is said of, and what was tested before."""
+    for part in factors(term) if isinstance(term, list) else ():
+        head, *rest = part
+        shared = definitions("Parts.antt").get(head) if isinstance(head, str) else None
+        if isinstance(head, list) and not rest:
+            yield from outcomes(head, tested)
+        elif head in ("MatchBool", "MatchOption"):
+            for branch in rest[1:]:
+                yield from outcomes(branch, rest[0])
+        elif head in OUTCOMES:
+            yield head, rest[0], tested
+        elif shared:
+            yield from outcomes(put_in(shared[1], dict(zip(shared[0], rest))), tested)
+        elif {*OUTCOMES} & {*words(part)}:
+            raise SystemExit(f"page: a row begins with {head}, which isn't known here")
+
+
+@cache
+def answers_of_access() -> list[str]:
+    text = (SPECS / "Parts.antt").read_text(encoding="utf-8")
+    return re.findall(r"^answer_of .* = answer\.(\w+)", text, re.M)
+
+
+def answers(term: Term | str) -> list[str]:
+    """The answers that a term names."""
+    found: list[str] = []
+    for word in words(term):
+        if word.startswith("answer."):
+            found.append(word.removeprefix("answer."))
+        elif word in CARRIED:
+            found.append("its answer")
+        elif word == "answer_of":
+            found += answers_of_access()
+    return found
+
+
+def row_of(operation: str, phase: str) -> Row:
+    name, file = f"{operation.capitalize()}{phase}Row", f"{operation.capitalize()}Rows.antt"
+    body = definitions(file)[name][1]
+    row = Row({}, [], [], "grant" in words(body))
+    for word, term, tested in outcomes(body):
+        if word == "Goes":
+            target = next(it for it in words(term) if it.startswith("at.")).removeprefix("at.")
+            row.goes.setdefault(target, []).extend(answers(term))
+        elif word == "Ends":
+            row.ends.extend(answers(term))
+        else:
+            row.waits.extend(HOLDERS[it] for it in words(tested) if it in HOLDERS)
+    if not (row.goes or row.ends):
+        raise SystemExit(f"page: {name} leads nowhere")
+    return row
+
+def told(names: list[str]) -> str:
+    return ", ".join(dict.fromkeys(names))
+
+
+def graph(operation: str) -> str:
+    """The phases of an operation as a graph in Mermaid's words."""
+    rows = {it: row_of(operation, it) for it in phases(operation)}
+    lines = ["```mermaid", "flowchart TD", f'    begin(["{operation} begins"]) --> {next(iter(rows))}']
+    for name, row in rows.items():
+        notes = [f"waits for {told(row.waits)}"] * bool(row.waits) + ["may want memory"] * row.asks
+        notes += [f"ends: {told(row.ends)}"] * bool(row.ends)
+        lines.append(f'    {name}["{"<br>".join([f"<b>{name.lower()}</b>", *notes])}"]')
+        for target in sorted(row.goes, key=list(rows).index):
+            label = f'|"{told(row.goes[target])}"| ' if row.goes[target] else ""
+            lines.append(f"    {name} --> {label}{target}")
+    return "\n".join([*lines, "```", ""])
+
+
+def phases(operation: str) -> list[str]:
+    """The phases of an operation, in the order of its enum."""
+    text = (CRATES / "hp_machine" / "src" / f"{operation}.rt").read_text(encoding="utf-8")
+    body = re.search(rf"pub enum {operation.capitalize()}Phase {{\n(.*?)\n}}", text, re.S)[1]
+    return re.findall(r"^    (\w+)", body, re.M)
+
+
+def name_of_row(operation: str, phase: str, rows: str) -> str:
+    """The definition of a phase's row."""
+    name = f"{operation.capitalize()}{phase}Row"
+    if not re.search(rf"^abbrev pub {name} :", rows, re.M):
+        raise SystemExit(f"page: {operation}'s phase {phase} has no definition {name}")
+    return f"`{name}`"
+
+
+def function_of(operation: str, phase: str) -> str:
+    """The function that does a phase: its own, or the operation's step where that does it in its arm."""
+    path = CRATES / STEPS[operation] / "src" / f"{operation}.rt"
+    text = path.read_text(encoding="utf-8")
+    own, step = f"from_{phase.lower()}", f"step_{operation}"
+    if f"fn {own}(" in text:
+        return own
+    if f"{operation.capitalize()}Phase::{phase} => " not in text or f"fn {step}(" not in text:
+        raise SystemExit(f"page: {path.relative_to(TOP)} has no function {own}, and {step} no arm for it")
+    return step
+
+
+def lemma_of(operation: str) -> str:
+    """The lemma that says what the operation's rows write."""
+    file, name = DID.get(operation, f"{operation.capitalize()}Did"), f"{operation}_did"
+    text = (CRATES / "hp_laws" / "proofs" / f"{file}.antt").read_text(encoding="utf-8")
+    if not re.search(rf"^pub {name} :", text, re.M):
+        raise SystemExit(f"page: {file}.antt has no lemma {name}")
+    return f"`{file}.{name}`"
+
+
+def edits_of(crate: str) -> dict[Function, list[str]]:
+    """The names of a crate's edits, by the function that they change."""
+    found: dict[Function, list[str]] = {}
+    for it in mutants_of(CRATES / crate)[0]:
+        for function in it.functions:
+            found.setdefault(function, []).append(it.edit.name)
+    return found
+
+
+def index() -> str:
+    """The text of docs/INDEX.md."""
+    edits = {crate: edits_of(crate) for crate in sorted(set(STEPS.values()))}
+    out = [HEAD]
+    for operation, crate in STEPS.items():
+        rows = (CRATES / "hp_machine" / "specs" / f"{operation.capitalize()}Rows.antt").read_text(encoding="utf-8")
+        out.append(f"\n## {operation.capitalize()}\n\n{graph(operation)}\n")
+        out.append("| Phase | Row | Function | Lemma | Mutants |\n|---|---|---|---|---|\n")
+        for phase in phases(operation):
+            name = function_of(operation, phase)
+            own = edits[crate].get(Function((operation,), None, False, name), [])
+            tried = ", ".join(f"`{it}`" for it in sorted(own))
+            cells = [phase.lower(), name_of_row(operation, phase, rows), f"`{operation}::{name}`", lemma_of(operation), tried]
+            out.append(f"| {' | '.join(cells)} |\n")
+    return "".join(out)
 
 
 def read(*names: str) -> str:
@@ -78,14 +300,26 @@ def module(name: str, text: str) -> str:
 def tried() -> tuple[int, int]:
     """How many tries of the page's functions passed, and how many failed."""
     if not shutil.which("node"):
-        print("  the page's functions aren't tried, since 'node' is missing (package: nodejs)")
+        print("left out: the page's functions that read a run: they need node")
         return 0, 0
-    ran = subprocess.run(["node", TOP / "gate" / "page_test.mjs"], stdin=subprocess.DEVNULL, stdout=subprocess.PIPE, stderr=subprocess.STDOUT, text=True)
+    how = {"stdin": subprocess.DEVNULL, "stdout": subprocess.PIPE, "stderr": subprocess.STDOUT, "text": True}
+    ran = subprocess.run(["node", TOP / "gate" / "page_test.mjs"], **how)
     counts = COUNTS.search(ran.stdout)
-    print(COUNTS.sub("", ran.stdout).rstrip() or "  the page's functions were tried")
+    print(COUNTS.sub("", ran.stdout).rstrip())
     return (int(counts[1]), int(counts[2])) if counts else (0, 1)
+
+def main(words: list[str]) -> int:
+    texts = {INDEX: index()} | {SOURCES / f"{name}.rt": module(name, text) for name, text in parts().items()}
+    stale = [path for path, text in texts.items() if not path.is_file() or path.read_text(encoding="utf-8") != text]
+    if words == ["--write"]:
+        for path in stale:
+            path.write_text(texts[path], encoding="utf-8")
+        return 0
+    print("".join(f"  {path.relative_to(TOP)} isn't what the sources say: gate/page.py --write\n" for path in stale), end="")
+    passed, failed = tried()
+    print(f"page: {passed + len(texts) - len(stale)} passed, {failed + len(stale)} failed")
+    return 1 if failed or stale else 0
 
 
 if __name__ == "__main__":
-    made = {SOURCES / f"{name}.rt": module(name, text) for name, text in parts().items()}
-    sys.exit(write_or_compare("page", made, sys.argv[1:], tried))
+    sys.exit(main(sys.argv[1:]))

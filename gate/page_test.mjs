@@ -14,7 +14,7 @@ const COUNTS = '"free":4,"resv":0,"owed":0';
 const LINES = [
   '{"pool":{"frames":4,"files":1,"slots":4,"tasks":2}}',
   `{"line":2,"task":1,"event":"begin","op":"map","numbers":[0,0,4],"outcome":"begun","at":"start","holds":{},"wants":{"lock":0},"owes":0,${COUNTS}}`,
-  `{"line":3,"task":1,"event":"step","outcome":"moved","phase":"room","linux":"get_unmapped_area","at":"room","holds":{"lock":0},"wants":{},"owes":0,${COUNTS}}`,
+  `{"line":3,"task":1,"event":"step","outcome":"moved","phase":"room","linux":"inode_lock","at":"room","holds":{"lock":0},"wants":{},"owes":0,${COUNTS}}`,
   `{"line":4,"task":2,"event":"begin","op":"trunc","numbers":[0,1],"outcome":"begun","at":"start","holds":{},"wants":{"lock":0},"owes":0,${COUNTS},"waits":[{"task":2,"for":1,"lock":0}]}`,
   `{"line":5,"task":2,"event":"step","outcome":"blocked","by":1,"at":"start","holds":{},"wants":{"lock":0},"owes":0,${COUNTS}}`,
   `{"line":6,"event":"resize","frames":6,"outcome":"resized","number":6,"free":6,"resv":2,"owed":-1}`,
@@ -57,7 +57,7 @@ expect("marks", [two.marks.blocked, two.marks.killed, two.marks.failed, pool.mar
 expect("reserved without a page", run.columns.bare[4], 3);
 
 for (const [query, found] of Object.entries({
-  "task 2": [2, 3, 5, 6], trunc: [2], "of trunc": [2, 3, 5, 6], "task 2 blocked": [3], get_unmapped_area: [1], inode_lock: [], incall: [8], waits: [2, 5],
+  "task 2": [2, 3, 5, 6], trunc: [2], "of trunc": [2, 3, 5, 6], "task 2 blocked": [3], get_unmapped_area: [], inode_lock: [1], incall: [8], waits: [2, 5],
   "line 6": [4], "6": [4], nothing: [], "": [],
 })) expect(`find ${query}`, findEvents(run, query), found);
 expect("a number is missing", findEvents(run, "task"), null);

@@ -1,14 +1,17 @@
-"""Programs of the repository, proved and built; their runs, and the report of what was tried with them."""
+"""What the scripts share: the crates, the programs that they run, runs, and the report of what was tried."""
 from __future__ import annotations
 
 import os
 import shlex
 import subprocess
+import sys
+from functools import cache
 from pathlib import Path
 from typing import Iterable, NamedTuple
 
-from marks import Marks, hash_of
-from scratch import TOP
+TOP = Path(__file__).resolve().parent.parent
+# (the gate shares the launcher's modules)
+sys.path.append(str(TOP / "launcher"))
 
 
 class Ran(NamedTuple):
@@ -22,7 +25,8 @@ class Ran(NamedTuple):
 def run(program: Path, words: str, read: str | bytes = b"", **how) -> Ran:
     """Runs a program with these words and this input."""
     given = read.encode() if isinstance(read, str) else read
-    ran = subprocess.run([program, *shlex.split(words)], input=given, capture_output=True, check=False, **how)
+    # (the usage that it prints has the name that users call it by)
+    ran = subprocess.run(["hugepool", *shlex.split(words)], executable=program, input=given, capture_output=True, check=False, **how)
     return Ran(ran.returncode, ran.stdout.decode(errors="replace"), ran.stderr.decode(errors="replace"))
 
 
@@ -35,31 +39,48 @@ def report(name: str, tries: Iterable[tuple[str, bool]]) -> int:
     return 1 if wrong else 0
 
 
-def program_of(crate: str, top: Path = TOP) -> Path:
-    return top / "crates" / crate / "out" / crate
+def crates_of(top: Path = TOP) -> dict[str, list[str]]:
+    """The crates of crates.txt, each with the libraries on which it stands."""
+    lines = (line.partition("#")[0].strip() for line in (top / "crates.txt").read_text(encoding="utf-8").splitlines())
+    heads = (line.partition(":") for line in lines if line)
+    return {head.split()[0]: below.split() for head, _, below in heads}
 
 
-def state_of(seen: Marks, crate: str) -> str:
-    """The texts of a crate and of those below it, and its program."""
-    return f"{seen.mark(crate)} {hash_of(program_of(crate, seen.top).parent, [crate])}"
+def below(crate: str, crates: dict[str, list[str]]) -> set[str]:
+    """The crates of the repository on which this one stands, at any remove."""
+    own = [it for it in crates[crate] if it in crates]
+    return {*own, *(low for it in own for low in below(it, crates))}
 
 
-def note(seen: Marks, crate: str) -> None:
-    """Notes that a crate's program was proved and built from these texts."""
-    program_of(crate, seen.top).with_name("built").write_text(state_of(seen, crate), encoding="utf-8")
+def of_program(crate: str = "hugepool") -> list[str]:
+    """The crates that a program is made of, its own last."""
+    crates = crates_of()
+    return [*(it for it in crates if it in below(crate, crates)), crate]
 
 
-def is_built(seen: Marks, crate: str) -> bool:
-    program, kept = program_of(crate, seen.top), program_of(crate, seen.top).with_name("built")
-    return program.is_file() and kept.is_file() and kept.read_text(encoding="utf-8") == state_of(seen, crate)
+def sources_of(crates: Iterable[str]) -> dict[Path, str]:
+    """The texts in src/ of these crates."""
+    return {file: file.read_text(encoding="utf-8") for it in crates for file in sorted((TOP / "crates" / it / "src").rglob("*.rt"))}
 
 
-def built(crate: str) -> Path:
-    """A program of the repository, which is proved and built where it isn't yet."""
-    if crate == "hugepool":
-        subprocess.run([TOP / "hugepool", "--help"], env={**os.environ, "HUGEPOOL": "proved"}, stdout=subprocess.DEVNULL, check=True)
-    elif not is_built(seen := Marks(), crate):
-        how = {"stdin": subprocess.DEVNULL, "stdout": subprocess.DEVNULL, "stderr": subprocess.DEVNULL}
-        subprocess.run(["rt", "run"], cwd=TOP / "crates" / crate, check=True, **how)
-        note(seen, crate)
-    return program_of(crate)
+def program_of(crate: str) -> Path:
+    return TOP / "crates" / crate / "out" / crate
+
+
+@cache
+def tested() -> Path:
+    """The program that the tests run: the proved one if it is current, else the one that is compiled without proof."""
+    own = {**os.environ, "HUGEPOOL": "path"}
+    ran = subprocess.run([TOP / "hugepool"], env=own, stdin=subprocess.DEVNULL, stdout=subprocess.PIPE, text=True, check=True)
+    return Path(ran.stdout.strip())
+
+
+def is_proved() -> bool:
+    return tested().name == "hugepool"
+
+
+def is_current(file: Path, crate: str) -> bool:
+    """Whether a file that was built of a crate is newer than each source of the crate and of those below it."""
+    folders = [TOP / "crates" / it / part for it in of_program(crate) for part in ("src", "specs", "proofs")]
+    newer = ["find", TOP / "crates.txt", *filter(Path.is_dir, folders), "-newer", file, "-print", "-quit"]
+    return file.is_file() and not subprocess.run(newer, stdout=subprocess.PIPE, check=True).stdout

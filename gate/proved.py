@@ -13,14 +13,15 @@ from __future__ import annotations
 
 import re
 import sys
-from dataclasses import dataclass, field, replace
+from dataclasses import dataclass, field
 from functools import cache
-from typing import Callable, Iterator
+from pathlib import Path
+from typing import Iterator
 
-from contracts import Function, contracts, definitions, is_on_surface, is_reached
-from programs import report
-from scratch import TOP, crates_of
+import edit
+from programs import TOP, crates_of, report
 
+CRATES = TOP / "crates"
 PAGE = TOP / "docs" / "PROVED.md"
 POOL = TOP / "docs" / "POOL.md"
 LIST = "What isn't listed"
@@ -31,8 +32,119 @@ ASIDE = re.compile(r" \(([^()]*)\)")
 TYPE = re.compile(r"\b(?:its type|their types)(?: and `requires`)?")
 UNNAMED = re.compile(r"\bclauses without a name\b")
 CONTRACT = re.compile(r"\b(?:its contract|their contracts)\b")
-# programs have no callers, so what their crates declare isn't public
-PROGRAMS = ("hugepool", "replay")
+CLAUSE = re.compile(r"^ *ensures(?: (\w+))? \{", re.M)
+REEXPORT = re.compile(r"^pub use ([^;]+);", re.M)
+# what an impl says besides its functions: what its type always keeps, field by field, and what it writes
+SAID = re.compile(r"^    ghost (invariant|output) = \{(.*?)\};$", re.M | re.S)
+
+
+@dataclass(frozen=True)
+class Function:
+    """A function: its crate and file, the type and the trait that it is of, if any, and its head with its contract. What an impl says
+    besides stands here as a function, too."""
+
+    crate: str
+    file: str
+    type: str | None
+    trait: str | None
+    name: str
+    is_public: bool
+    contract: str
+
+    def __str__(self) -> str:
+        return "::".join(it for it in (self.crate, self.type or self.trait, self.name) if it)
+
+    @property
+    def clauses(self) -> dict[str, str]:
+        """Its clauses by their names; those without one have the empty name."""
+        _, *pieces = re.split(CLAUSE, re.sub(r"^ *(?:requires .*|//.*\n)", "", self.contract, flags=re.M))
+        found: dict[str, str] = {}
+        for name, text in zip(pieces[::2], pieces[1::2]):
+            found[name or ""] = found.get(name or "", "") + text
+        return found
+
+
+@dataclass(frozen=True)
+class Owner:
+    """An impl or a trait: its lines, its type and its trait."""
+
+    first: int
+    last: int
+    type: str | None
+    trait: str | None
+
+
+def owners(lines: list[str]) -> Iterator[Owner]:
+    for at, line in enumerate(lines):
+        if made := edit.IMPL.match(line):
+            head = edit.without_parameters(made[2].strip()).split(" {")[0].split(" where ")[0]
+            trait, is_of, kind = head.partition(" for ")
+            last = edit.end_of(lines, at, made[1])
+            yield Owner(at, last, edit.last_name(kind or trait), edit.last_name(trait) if is_of else None)
+        elif made := edit.TRAIT.match(line):
+            yield Owner(at, edit.end_of(lines, at, made[1]), None, made[2])
+
+
+def said(text: str) -> Iterator[tuple[str, str]]:
+    """What an impl says besides its functions, as names and contracts."""
+    for name, value in SAID.findall(text):
+        fields = re.findall(r"^      (\w+) :", value, re.M) if name == "invariant" else [name]
+        yield name, "".join(f"ensures {it} {{\n" for it in fields)
+
+
+def functions_of(crate: str, file: Path) -> Iterator[Function]:
+    path, text = str(file.relative_to(CRATES)), file.read_text(encoding="utf-8")
+    lines = text.split("\n")
+    found = list(owners(lines))
+    for it, first, last in edit.functions(path.partition("/")[2], text):
+        of = next((one for one in reversed(found) if one.first < first <= one.last), Owner(0, 0, None, None))
+        ends = last + 1 if lines[last].endswith(";") else edit.body_of(lines, first, last)
+        is_public = of.trait is not None or lines[first].lstrip().startswith("pub ")
+        yield Function(crate, path, of.type, of.trait, it.name, is_public, "\n".join(lines[first:ends]))
+    for of in found:
+        for name, contract in said("\n".join(lines[of.first:of.last])):
+            yield Function(crate, path, of.type, of.trait, name, False, contract)
+
+
+@cache
+def contracts(crate: str) -> tuple[Function, ...]:
+    """All functions of a crate."""
+    return tuple(it for file in sorted((CRATES / crate / "src").rglob("*.rt")) for it in functions_of(crate, file))
+
+
+@cache
+def surface(crate: str) -> frozenset[str]:
+    """The names that a library declares in its lib.rt or hands on from there: its types, traits and functions; the exports of one for C."""
+    file = CRATES / crate / "src" / "lib.rt"
+    text = file.read_text(encoding="utf-8") if file.exists() else ""
+    names = set(re.findall(r"^pub (?:fn|struct|enum|trait) (\w+)", text, re.M))
+    for used in REEXPORT.findall(text):
+        names |= set(re.findall(r"\w+", used.partition("{")[2] or used.rpartition("::")[2]))
+    return frozenset({*names, *(it.name for it in contracts(crate) if 'pub extern "C" fn' in it.contract)})
+
+
+def is_on_surface(it: Function) -> bool:
+    """Whether others can call it by a name that its crate hands on."""
+    return it.is_public and (it.type or it.trait or it.name) in surface(it.crate)
+
+
+@cache
+def open_modules(crate: str) -> frozenset[str]:
+    """The modules of a crate that are public."""
+    return frozenset(re.findall(r"^pub mod (\w+);", (CRATES / crate / "src" / "lib.rt").read_text(encoding="utf-8"), re.M))
+
+
+def is_reached(it: Function) -> bool:
+    """Whether others can call it, by way of a public module, too."""
+    return is_on_surface(it) or it.is_public and Path(it.file).stem in open_modules(it.crate)
+
+
+@cache
+def definitions(crate: str) -> frozenset[tuple[str, str]]:
+    """The definitions of a crate's specs, each with its file."""
+    head = re.compile(r"^ *(?:(?:abbrev|unfoldable) )?pub (?:record |data )?([^\s:{(]+)", re.M)
+    files = sorted((CRATES / crate / "specs").rglob("*.antt"))
+    return frozenset((name, str(file.relative_to(CRATES))) for file in files for name in head.findall(file.read_text(encoding="utf-8")))
 
 
 class Unread(Exception):
@@ -73,7 +185,7 @@ class Row:
 def all_definitions() -> dict[str, set[str]]:
     """The files in which specs define each name."""
     found: dict[str, set[str]] = {}
-    for crate in crates_of(TOP):
+    for crate in crates_of():
         for name, file in definitions(crate):
             found.setdefault(name, set()).add(file)
     return found
@@ -88,7 +200,7 @@ def rows(page: str) -> Iterator[Row]:
     crate, before = None, None
     for line in page.splitlines():
         if line.startswith("## "):
-            crate = line[3:] if line[3:] in crates_of(TOP) else "" if line[3:] == LIST else None
+            crate = line[3:] if line[3:] in crates_of() else "" if line[3:] == LIST else None
         cells = line.strip("| ").split(" | ")
         if crate is None or not line.startswith("| ") or len(cells) != 3 or cells[2] == "Clause":
             continue
@@ -110,7 +222,7 @@ def spread(path: str) -> list[str]:
 def found(path: str, crate: str) -> Call:
     """The call of this name, in the crate that it begins with or else in the row's."""
     *above, name = path.split("::")
-    if above and above[0] in crates_of(TOP):
+    if above and above[0] in crates_of():
         crate, *above = above
     owner = above[-1] if above else None
     named = [it for it in contracts(crate) if it.name == name] if crate else []
@@ -143,7 +255,7 @@ def calls_of(text: str, crate: str) -> list[Call]:
     for it in several:
         if in_file and not any(one.file == in_file[2] for one in it.functions):
             raise Unread(f"{in_file[2]} has no {it.name}")
-        if not in_file and crate not in PROGRAMS and not any(is_reached(one) for one in it.functions):
+        if not in_file and not (CRATES / crate / "src" / "main.rt").exists() and not any(is_reached(one) for one in it.functions):
             raise Unread(f"{it.name} isn't public, and no file is named")
     return several + [call for it in paths if it.endswith("..") for call in others(it, crate)]
 
@@ -219,7 +331,7 @@ def named_in(page: str) -> tuple[dict[Function, set[str]], list[str]]:
 
 def gaps(named: dict[Function, set[str]]) -> Iterator[str]:
     """The clauses of public calls that no row names."""
-    for crate in crates_of(TOP):
+    for crate in crates_of():
         for it in filter(is_on_surface, contracts(crate)):
             for clause in sorted({*it.clauses} - named.get(it, set())):
                 yield f"no row names {it}, {f'clause {clause}' if clause else 'its contract'}"
@@ -243,66 +355,14 @@ def pool_faults(page: str) -> Iterator[str]:
                 yield f"docs/POOL.md: {path} has no clause {clause}"
 
 
-def faults_of(page: str, pool: str = "") -> list[str]:
-    named, faults = named_in(page)
-    return [*faults, *gaps(named), *inherited(page), *pool_faults(pool)]
-
-
-def with_sources(change: Callable[[Function], Function | None], page: str) -> list[str]:
-    """The faults of a page where each function of the sources is changed so; None stands for one that is gone."""
-    global contracts
-    kept = contracts
-    contracts = cache(lambda crate: tuple(new for it in kept(crate) if (new := change(it))))
-    try:
-        return faults_of(page)
-    finally:
-        contracts = kept
-
-
-def take(change: Callable[[Function], Function | None]) -> Callable[[Function], Function | None]:
-    """A change of `SlotTable::try_take` alone."""
-    return lambda it: change(it) if str(it) == "hp_slots::SlotTable::try_take" else it
-
-
-# what is replaced in the page, and a fault that must be reported then
-WRONG_ROWS = (
-    ("`hp_hunt::minimize` | `none`", "`hp_hunt::minimize` | `nothing`", "hp_hunt::minimize: no clause nothing"),
-    ("`hp_hunt::minimize` | `none`", "`hp_hunt::find` | `none`", "no row names hp_hunt::minimize, clause none"),
-    ("`hp_hunt::meets` | its contract", "`hp_hunt::met` | its contract", "there is no hp_hunt::met"),
-    ("`hp_hunt::meets` | its contract", "`hp_hunt::meets` | most of its contract", "can't read the clauses"),
-    ("(`IsFound` in `hp_hunt", "(`IsLost` in `hp_hunt", "have no IsLost"),
-    ("(`IsFound` in `hp_hunt/specs/Hunting.antt`)", "(`IsFound` in `hp_hunt/specs/Cutting.antt`)", "have no IsFound"),
-    ("`callers_live`, `a_begin", "`a_begin", "hp_core: no call is named callers_live"),
-    ("`callers_live`, `a_begin", "`callers_live`, `never_short`, `a_begin", "hp_core: never_short is no theorem without"),
-    ("`Pool::hold` in `hp_shared/src/pool.rt`", "`Pool::hold`", "no file is named"),
-    ("`Pool::hold` in `hp_shared/src/pool.rt`", "`Pool::hold` in `hp_shared/src/seat.rt`", "has no Pool::hold"),
-)
-# what is changed in the sources, and a fault that must be reported then
-CHANGED = {
-    "no clause vacant": take(lambda it: replace(it, contract=it.contract.replace("ensures vacant", "ensures free"))),
-    "no row names hp_slots::SlotTable::try_take, clause free": take(
-        lambda it: replace(it, contract=it.contract.replace("ensures vacant", "ensures free"))
-    ),
-    "no row names hp_slots::SlotTable::try_take, clause more": take(lambda it: replace(it, contract=it.contract + "\n ensures more { }")),
-    "there is no hp_slots::SlotTable::try_take": take(lambda it: None),
-    "hp_slots::SlotTable::try_take isn't public": take(lambda it: replace(it, is_public=False)),
-}
-
-
 def tries() -> Iterator[tuple[str, bool]]:
     """What is tried, and whether it went as it should."""
     page, pool = PAGE.read_text(encoding="utf-8"), POOL.read_text(encoding="utf-8")
-    faults = faults_of(page, pool)
-    yield from ((it if it.startswith("docs/") else f"docs/PROVED.md: {it}", False) for it in faults)
+    named, faults = named_in(page)
+    faults += [*gaps(named), *inherited(page)]
+    yield from ((f"docs/PROVED.md: {it}", False) for it in faults)
+    yield from ((it, False) for it in pool_faults(pool))
     yield from ((f"a row of {it.crate}", True) for it in rows(page))
-    for old, new, wanted in WRONG_ROWS:
-        noticed = [it for it in faults_of(page.replace(old, new)) if it not in faults]
-        yield f"of a page with {new} it says {wanted}: {noticed}", page.count(old) == 1 and any(wanted in it for it in noticed)
-    for wanted, change in CHANGED.items():
-        noticed = with_sources(change, page)
-        yield f"of changed sources it says {wanted}: {noticed}", any(wanted in it for it in noticed)
-    noticed = list(pool_faults(pool.replace("`Pool::advance`: `row`", "`Pool::advance`: `rows`")))
-    yield f"a wrong clause in docs/POOL.md is noticed: {noticed}", noticed == ["docs/POOL.md: Pool::advance has no clause rows"]
 
 
 if __name__ == "__main__":

@@ -133,7 +133,8 @@ def run(program: Path, words: str, row: Row, room: int | None) -> Ran:
         source.seek(0)
         stdin: IO[bytes] | socket.socket = broken(row.read()) if row.breaks else source
         ran = subprocess.run(
-            [program, *shlex.split(words)],
+            ["hugepool", *shlex.split(words)],
+            executable=program,
             stdin=stdin,
             stdout=out,
             stderr=full if row.stderr_is_full else subprocess.PIPE,
@@ -165,41 +166,12 @@ def front_fault(program: Path, words: str, row: Row) -> str | None:
     return None
 
 
-def has_end(row: Row) -> bool:
-    """Whether the row says how its output ends."""
-    return bool(row.stdout_ends or row.stdout_lines is not None) or not row.is_partly_said()
-
-
-# what a run may come to instead, and which rows have to notice it
-CHANGES: dict[str, tuple[Callable[[Ran], Ran], Callable[[Row], bool]]] = {
-    "another status": (lambda ran: ran._replace(status=ran.status + 1), lambda _: True),
-    "a byte more": (lambda ran: ran._replace(out=ran.out + "\n"), has_end),
-    "its last line lost": (lambda ran: ran._replace(out="".join(ran.out.splitlines(True)[:-1])), has_end),
-    "its first line lost": (
-        lambda ran: ran._replace(out="".join(ran.out.splitlines(True)[1:])),
-        lambda row: bool(row.stdout_starts or row.stdout_lines) or not row.is_partly_said(),
-    ),
-    "nothing on standard error": (lambda ran: ran._replace(err=""), lambda _: True),
-    "a line more on standard error": (
-        lambda ran: ran._replace(err=ran.err + "hugepool: stuck\n"),
-        lambda row: not row.stderr_starts,
-    ),
-}
-
-
-def unnoticed_change(row: Row, ran: Ran) -> str | None:
-    """A change of a right run that the row doesn't notice and has to, if there is one."""
-    changed = {what: change(ran) for what, (change, concerns) in CHANGES.items() if concerns(row)}
-    return next((f"{what} isn't noticed" for what, it in changed.items() if it != ran and fault(row, it) is None), None)
-
-
 def row_fault(program: Path, words: str, row: Row) -> str | None:
     """What is wrong with the runs of one command line of a row, or with the row itself, if anything is."""
     try:
         if row.room is not None:
             return front_fault(program, words, row)
-        ran = run(program, words, row, None)
-        return fault(row, ran) or unnoticed_change(row, ran)
+        return fault(row, run(program, words, row, None))
     except subprocess.TimeoutExpired:
         return "it does not end"
 
@@ -214,55 +186,3 @@ def tries(program: Path, name: str, row: Row) -> Iterator[tuple[str, bool]]:
     for words in row.words:
         wrong = row_fault(program, words, row)
         yield f"{name}: {program.name} {words}: {wrong}", not wrong
-
-
-# a program that runs the right one and changes what comes of it: {change} has its output, its complaint and its status
-WRONG = """#!/usr/bin/env python3
-import os, subprocess, sys
-RIGHT = {right!r}
-
-def everything():
-    while True:
-        try:
-            piece = os.read(0, 65536)
-        except OSError:
-            return
-        if not piece:
-            return
-        yield piece
-
-def write(to, written):
-    while written:
-        written = written[os.write(to, written):]
-
-ran = subprocess.run([RIGHT, *sys.argv[1:]], input=b"".join(everything()), capture_output=True)
-status = ran.returncode
-{change}
-sys.exit(status)
-"""
-RELAY = """
-try:
-    write(1, ran.stdout)
-    write(2, ran.stderr)
-except OSError:
-    {otherwise}
-"""
-# what each wrong program does, how, and which rows have to notice it
-WRONGS: dict[str, tuple[str, Callable[[Row], bool]]] = {
-    "takes a broken input for its end": (RELAY.format(otherwise="status = 1"), lambda row: row.breaks),
-    "doesn't see that its output is full": (RELAY.format(otherwise="pass"), lambda row: "writing failed" in row.stderr),
-    "takes back what it wrote where its output is full": (
-        RELAY.format(otherwise='os.ftruncate(1, 0); status = 1; write(2, b"hugepool: writing failed\\n")'),
-        lambda row: "writing failed" in row.stderr,
-    ),
-    "has another status where its complaint isn't taken": (RELAY.format(otherwise="status = 3"), lambda row: row.stderr_is_full),
-}
-
-
-def wrongs_noticed(right: Path, wrong: Path, folder: Path) -> Iterator[tuple[str, bool]]:
-    """Whether each wrong program is noticed by each row that has to; a program is written to that file."""
-    for what, (change, concerns) in WRONGS.items():
-        wrong.write_text(WRONG.format(right=str(right), change=change), encoding="utf-8")
-        wrong.chmod(0o755)
-        for name, row in ((name, row) for name, row in rows_below(folder) if concerns(row)):
-            yield f"{name}: a program that {what} is noticed", row_fault(wrong, row.words[0], row) is not None

@@ -22,8 +22,7 @@ from pathlib import Path
 from typing import Iterator
 
 import reasons
-from programs import built, report, run
-from scratch import TOP
+from programs import TOP, is_proved, report, run, tested
 
 BOX = re.compile(r"<rect class='([^']*)' x='(\d+)' y='(\d+)' width='(\d+)' height='(\d+)'/>")
 STAY = re.compile(r"at \w+[^<]*</title><rect class='stay \w+' x='\d+' y='(\d+)' width='\d+' height='(\d+)'/>")
@@ -60,14 +59,14 @@ def example(name: str) -> str:
 
 
 def output(words: str, read: str) -> str:
-    ran = run(TOP / "hugepool", words, read)
+    ran = run(tested(), words, read)
     return ran.out if ran.status == 0 else f"status {ran.status}: {ran.err}"
 
 
 def writes(words: str, read: str) -> list[int]:
     """How many lines each write of the program has."""
     ours, its = socket.socketpair(socket.AF_UNIX, socket.SOCK_SEQPACKET)
-    with ours, subprocess.Popen([TOP / "hugepool", *words.split()], stdin=subprocess.PIPE, stdout=its) as ran:
+    with ours, subprocess.Popen(["hugepool", *words.split()], executable=tested(), stdin=subprocess.PIPE, stdout=its) as ran:
         its.close()
         ran.stdin.write(read.encode())
         ran.stdin.close()
@@ -75,12 +74,12 @@ def writes(words: str, read: str) -> list[int]:
 
 
 def told_so_far(read: str, enough: int) -> int:
-    """How many bytes a replay writes of these lines, while more may come; `enough` of them end the wait, or a minute without any."""
-    with subprocess.Popen([TOP / "hugepool", "replay"], stdin=subprocess.PIPE, stdout=subprocess.PIPE) as ran:
+    """How many bytes a replay writes of these lines, while more may come; `enough` of them end the wait, or five minutes without any."""
+    with subprocess.Popen(["hugepool", "replay"], executable=tested(), stdin=subprocess.PIPE, stdout=subprocess.PIPE) as ran:
         told, left = 0, read.encode()
         os.set_blocking(ran.stdin.fileno(), False)
         while told < enough:
-            readable, writable, _ = select.select([ran.stdout], [ran.stdin] if left else [], [], 60)
+            readable, writable, _ = select.select([ran.stdout], [ran.stdin] if left else [], [], 300)
             if not readable and not writable:
                 break
             if writable:
@@ -109,7 +108,7 @@ def in_shards(script: str, seed: int, runs: int, shards: int, *options: str) -> 
         stand_in = Path(name) / "parallel"
         stand_in.write_text(PARALLEL, encoding="utf-8")
         stand_in.chmod(0o755)
-        own = {"env": {**os.environ, "PATH": f"{name}:{os.environ['PATH']}"}, "stdin": subprocess.DEVNULL, "check": True}
+        own = {"env": {**os.environ, "PATH": f"{name}:{os.environ['PATH']}", "HUGEPOOL": "now"}, "stdin": subprocess.DEVNULL, "check": True}
         words = [TOP / "examples" / script, seed, runs, shards, *options]
         ran = subprocess.run([TOP / "bench" / "explore-many.sh", *map(str, words)], capture_output=True, text=True, **own)
         return ran.stdout
@@ -143,7 +142,8 @@ def shown_of(ran: subprocess.Popen, read: str, ours: int, theirs: int) -> str:
 def at_terminal(words: str, read: str) -> tuple[str, str]:
     """The output of a command, and what a terminal at its standard error gets."""
     ours, theirs = pty.openpty()
-    with tempfile.TemporaryFile() as out, subprocess.Popen([TOP / "hugepool", *words.split()], stdin=subprocess.PIPE, stdout=out, stderr=theirs) as ran:
+    own = {"executable": tested(), "stdin": subprocess.PIPE, "stderr": theirs}
+    with tempfile.TemporaryFile() as out, subprocess.Popen(["hugepool", *words.split()], stdout=out, **own) as ran:
         shown = shown_of(ran, read, ours, theirs)
         ran.wait()
         out.seek(0)
@@ -155,7 +155,7 @@ def on_terminal(words: str, read: str, **variables: str) -> str:
     ours, theirs = pty.openpty()
     kept = {name: value for name, value in os.environ.items() if name != "NO_COLOR"}
     own = {"env": {**kept, "TERM": "xterm", **variables}, "stdin": subprocess.PIPE, "stdout": theirs, "stderr": subprocess.DEVNULL}
-    with subprocess.Popen([TOP / "hugepool", *words.split()], **own) as ran:
+    with subprocess.Popen(["hugepool", *words.split()], executable=tested(), **own) as ran:
         return shown_of(ran, read, ours, theirs).replace("\r\n", "\n")
 
 
@@ -185,7 +185,7 @@ def colours() -> Iterator[tuple[str, bool]]:
     for file in sorted((TOP / "examples").rglob("*.trace")):
         trace = file.read_text(encoding="utf-8")
         for command in ("replay", "explain"):
-            plain, coloured = run(TOP / "hugepool", command, trace), run(TOP / "hugepool", f"{command} --color always", trace)
+            plain, coloured = run(tested(), command, trace), run(tested(), f"{command} --color always", trace)
             same = (coloured.status, coloured.err) == (plain.status, plain.err) and COLOUR.sub("", coloured.out) == plain.out
             yield f"{file.stem}: {command} in colours says the same, and has no other word coloured", same and coloured.out == painted(plain.out)
 
@@ -194,11 +194,11 @@ def is_progress_shown(words: str, read: str, last: str) -> bool:
     """Whether a search that takes long says at a terminal how far it is, each time in place of the time before, and then erases that; and
     says nothing of it anywhere else."""
     out, shown = at_terminal(words, read)
-    alone = run(TOP / "hugepool", words, read)
+    alone = run(tested(), words, read)
     told = re.findall(r"\r\x1b\[Khugepool: (\d+) of (\d+) runs, \d+ a second, \d+ (?:s|min) left", shown)
     runs = [int(it) for it, _ in told]
     is_erased = shown.replace("\r\n", "\n").endswith(f"left\r\x1b[K{last}")
-    return bool(told) and runs == sorted(set(runs)) and is_erased and (alone.out, alone.err) == (out, last)
+    return bool(told) and runs == sorted(runs) and is_erased and (alone.out, alone.err) == (out, last)
 
 
 def rows_fault(told: str, events: int) -> str | None:
@@ -309,22 +309,27 @@ def tries(program: Path) -> Iterator[tuple[str, bool]]:
     """What is tried, and whether it went as it should."""
     yield "runs are written a part at a time, of 16 first", writes("explore --runs 17", EMPTY) == [16, 1]
     yield "the next part has four times as many", writes("explore --runs 81", EMPTY) == [16, 64, 1]
-    yield "but where runs are long as many", writes("explore --runs 2385", f"pool 1 1 1 4\n{CALLS}") == [16, 64, 256, 1024, 1024, 1]
-    yield "of fewer tasks they may be longer", writes("explore --runs 2385", EMPTY + CALLS) == [16, 64, 256, 1024, 1025]
     # (what the program's buffer holds, and the lines of a piece that is read, may be to come)
     some = EMPTY + "step 1\n" * 50_000
     enough = len("refused idle\n") * 50_000 - 32_768
     yield "a replay doesn't wait for the end of its trace", told_so_far(some, enough) >= enough
     name, options = "truncate-against-store.script", ("--deny", "100", "--kill", "20")
-    for runs, shards in ((10, 3), (2, 5), (600, 1)):
+    for runs, shards in ((10, 3), (2, 5), *([(600, 1)] if is_proved() else [])):
         at_once = output(f"explore --seed 7 --runs {runs} {' '.join(options)}", example(name))
         yield f"{runs} runs in {shards} shards are those of one exploration", in_shards(name, 7, runs, shards, *options) == at_once
-    yield "65,536 runs may be asked for", output("explore --runs 65536", EMPTY).count("\n") == 65_536
-    yield "and as many races", output("race --times 65536", EMPTY).count("\n") == 65_536
     # (long enough for a line of progress on any machine)
-    crowd, never = example("64-backends-one-segment.script"), "hugepool: no run meets all conditions (runs explored: 20000)\n"
-    yield "a summary says at a terminal how far it is", is_progress_shown("explore --summary --runs 20000", crowd, "")
-    yield "so does a search", is_progress_shown("find --answer 64:2=noframe --limit 20000", crowd, never)
+    crowd, limit = example("64-backends-one-segment.script"), 20_000 if is_proved() else 200
+    never = f"hugepool: no run meets all conditions (runs explored: {limit})\n"
+    yield "a summary says at a terminal how far it is", is_progress_shown(f"explore --summary --runs {limit}", crowd, "")
+    yield "so does a search", is_progress_shown(f"find --answer 64:2=noframe --limit {limit}", crowd, never)
+    if is_proved():
+        yield "but where runs are long as many", writes("explore --runs 2385", f"pool 1 1 1 4\n{CALLS}") == [16, 64, 256, 1024, 1024, 1]
+        yield "of fewer tasks they may be longer", writes("explore --runs 2385", EMPTY + CALLS) == [16, 64, 256, 1024, 1025]
+        yield "65,536 runs may be asked for", output("explore --runs 65536", EMPTY).count("\n") == 65_536
+        yield "and as many races", output("race --times 65536", EMPTY).count("\n") == 65_536
+    else:
+        print("left out: long runs, 65,536 runs and races: they need the proved program")
+    yield "by ./hugepool help has its name, too", run(TOP / "hugepool", "race --help").out == output("race --help", "")
     yield from helps()
     yield from colours()
     yield from reasons.tries(program)
@@ -353,9 +358,5 @@ def tries(program: Path) -> Iterator[tuple[str, bool]]:
         yield f"a picture {name} holds all of it ({fault})", fault is None
 
 
-def main() -> int:
-    return report("showing", tries(built("hugepool")))
-
-
 if __name__ == "__main__":
-    sys.exit(main())
+    sys.exit(report("showing", tries(tested())))

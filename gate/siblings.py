@@ -12,7 +12,7 @@ prover checks one call of a recursive function. A mutant that is wrong only in h
 then tried by itself, as each mutant is whose sibling isn't refused.
 
 Methods of traits have no siblings, nor have mutants of several functions, of contracts, types or definitions: they are tried in the
-function's own place (try_edits.py).
+function's own place (mutants.py).
 """
 from __future__ import annotations
 
@@ -21,10 +21,9 @@ from dataclasses import dataclass, replace
 from pathlib import Path, PurePosixPath
 from typing import Iterable, Iterator
 
-import source
-from edit import Mutant, Texts
-from source import Function
-from verdicts import Check, Verdict, is_of
+import edit
+from checks import Check, is_of
+from edit import Function, Mutant, Texts
 
 VISIBLE = re.compile(r" *(?:pub|extern)\b")
 
@@ -74,8 +73,8 @@ def heads_around(lines: list[str], at: int) -> list[int]:
     """The first lines of the impls, traits and modules in which a line stands."""
     found = []
     for n, line in enumerate(lines[:at]):
-        begun = source.IMPL.match(line) or source.TRAIT.match(line) or source.MODULE.match(line)
-        if begun and source.end_of(lines, n, begun[1]) >= at:
+        begun = edit.IMPL.match(line) or edit.TRAIT.match(line) or edit.MODULE.match(line)
+        if begun and edit.end_of(lines, n, begun[1]) >= at:
             found.append(n)
     return found
 
@@ -89,12 +88,12 @@ def begin_of(lines: list[str], first: int) -> int:
 
 def place_of(function: Function, path: str, text: str) -> Place | None:
     """The place of a plain function: outside of traits and their impls, and of modules within its file."""
-    same = [(first, last) for it, first, last in source.functions(path, text) if it == function]
+    same = [(first, last) for it, first, last in edit.functions(path, text) if it == function]
     if len(same) != 1 or function.is_of_trait:
         return None
     (first, last), lines = same[0], text.split("\n")
     heads = heads_around(lines, first)
-    if len(heads) > 1 or heads and not source.IMPL.match(lines[heads[0]]):
+    if len(heads) > 1 or heads and not edit.IMPL.match(lines[heads[0]]):
         return None
     brace = next((n for n in range(heads[0], first) if lines[n].endswith("{")), first) if heads else 0
     head = tuple(lines[heads[0]:brace + 1]) if heads else ()
@@ -200,7 +199,3 @@ def strays(crate: Path, family: Family, check: Check) -> list[str]:
     refused = [path for path, told in check.functions.items() if not told.is_proved and not any(is_of(it, path) for it in own)]
     errors = [f"{it.file}:{it.line}" for it in check.errors if it.file.startswith("proofs/") and it.file not in copies]
     return [*refused, *check.refused_items, *errors]
-
-
-def verdicts_on(family: Family, check: Check) -> dict[Sibling, Verdict]:
-    return {it: check.verdict_on([it.function]) for it in family.siblings}

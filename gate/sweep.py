@@ -4,20 +4,28 @@
 What it writes is compared with what the plain programs of bench/plain write, which share no line with it, or with counts that
 follow from the tables: a call that waits for nobody makes the same steps whatever the size. So a program that gives up, or goes
 astray, at some size that no example has is noticed. Needs cargo, which builds the plain programs.
+
+At last 8 tasks race a long script of calls of all kinds in threads, and what they did is compared with what was asked. The race has to be
+closed, and so has one whose journal is cut. Of a third one the trace is read: the begins of each task are the script's calls of that
+task, in their order up to its exit, and a replay of it blocks and refuses nothing and ends with no call in flight. (A script has no kills:
+those of `crates/hp_pool_tests` are made through the library.)
+
+The program that is compiled without proof takes up to 60 times as long: it is tried at fewer sizes.
 """
 from __future__ import annotations
 
 import os
+import random
 import re
 import subprocess
 import sys
 import tempfile
 import xml.etree.ElementTree as xml
+from concurrent.futures import ThreadPoolExecutor
 from pathlib import Path
 from typing import Iterable, Iterator
 
-from programs import Ran, built, report, run
-from scratch import TOP
+from programs import TOP, Ran, is_proved, report, run, tested
 
 PLAIN = TOP / "bench" / "plain"
 # the largest pool
@@ -27,6 +35,9 @@ SEEDS = [0, 1, 2**32, 2**63 - 1, 2**63, 2**63 + 12_345, 2**64 - 1]
 # chances, of a thousand, at both ends and in pairs
 CHANCES = [(0, 0), (1, 0), (0, 1), (999, 999), (1000, 0), (0, 1000), (500, 501), (501, 500), (1000, 1000)]
 RACED = re.compile(r"run \d+ closed entries (\d+) free (\d+) resv (\d+)")
+# the pool of a long race, its tasks, the most events of a trace, and how its replay ends
+SOAKED, RACERS, MOST = "pool 24 3 8 8", 8, 1_000_000
+STATE = re.compile(r"free \d+ resv \d+ calls (\d+)( used \d+)?")
 # steps that are more than any call of a page makes
 ENOUGH = 20
 
@@ -113,7 +124,9 @@ def raced(program: Path, words: str, read: str) -> tuple[int, ...]:
 def sizes(program: Path) -> Iterator[tuple[str, bool]]:
     """Each number of tasks, of files and of slots: by a trace, by the words about it, and by runs of a script."""
     pools = [(64, 1 + tasks % FILES, tasks, tasks) for tasks in range(1, TASKS + 1)]
-    pools += [(16, files, SLOTS, 4) for files in range(1, FILES + 1)] + [(16, 2, slots, 4) for slots in range(1, SLOTS + 1)]
+    pools = pools if is_proved() else pools[:8] + pools[-1:]
+    pools += [(16, files, SLOTS, 4) for files in range(1, FILES + 1)]
+    pools += [(16, 2, slots, 4) for slots in range(1, SLOTS + 1, 1 if is_proved() else 9)]
     for pool in pools:
         header, each = crowd(*pool)
         trace, calls = in_turn(header, each), script(header, each)
@@ -171,7 +184,7 @@ def used(program: Path, words: str, read: str) -> tuple[float, int]:
     with tempfile.TemporaryFile() as given:
         given.write(read.encode())
         given.seek(0)
-        ran = subprocess.Popen([program, *words.split()], stdin=given, stdout=subprocess.DEVNULL)
+        ran = subprocess.Popen(["hugepool", *words.split()], executable=program, stdin=given, stdout=subprocess.DEVNULL)
         _, status, usage = os.wait4(ran.pid, 0)
         ran.returncode = status
     if status:
@@ -206,7 +219,7 @@ def drawn(program: Path) -> Iterator[tuple[str, bool]]:
 def many_runs(program: Path) -> Iterator[tuple[str, bool]]:
     """As many runs as are asked for, audited or not."""
     begins = script(*crowd(2, 1, 1, 2))
-    for runs in (1, 63, 64, 65, 600):
+    for runs in (1, 63, 64, 65, *([600] if is_proved() else [])):
         wanted = plain("explore", f"--runs {runs}", begins)
         yield f"{runs} runs", run(program, f"explore --runs {runs}", begins) == wanted
         yield f"{runs} runs, audited", run(program, f"explore --runs {runs} --audit", begins) == wanted
@@ -231,41 +244,83 @@ def long_traces(program: Path) -> Iterator[tuple[str, bool]]:
         yield f"4,000 loads that find no mapping, cut behind {cut} of them", raced(program, f" --cut {cut}", loads) == (8_000, 1, 0)
 
 
-# wrong programs, by what they do around the right one, each with what has to notice it
-WRONG = {
-    "lacks memory for 41 tasks": ('read -r header; [[ $header != *" 41" ]] || exit 1; { echo "$header"; cat; } | "$program" "$@"', crowds),
-    "takes 63 bits of a seed": ('exec "$program" "${@/#9223372036854775808/0}"', chances),
-    "loses a denial's chance beside a kill's": ('[[ $* != *"--kill 501"* ]] || set -- "${@/#500/0}"; exec "$program" "$@"', chances),
-}
+def call(dice: random.Random) -> str:
+    """A call of any kind but an exit. Those that visit the page tables of all tasks are seldom, so that a race fits a trace."""
+    file, first, length = dice.randrange(3), dice.randrange(12), dice.randint(1, 4)
+    address = dice.randrange(40)
+    kind = dice.choices(("map", "mapn", "alloc", "allock", "punch", "trunc", "unmap", "load", "store"), (2, 2, 1, 1, 1, 1, 4, 10, 10))[0]
+    match kind:
+        case "trunc":
+            return f"trunc {file} {dice.randrange(12)}"
+        case "unmap" | "load":
+            return f"{kind} {address}"
+        case "store":
+            return f"store {address} {dice.randrange(1000)}"
+    return f"{kind} {file} {first} {length}"
 
 
-def noticed(program: Path, room: Path) -> Iterator[tuple[str, bool]]:
-    """Whether each wrong program is noticed."""
-    for name, (text_of, trying) in WRONG.items():
-        wrong = room / "wrong"
-        wrong.write_text(f"#!/bin/bash\nprogram={program}\n{text_of}\n", encoding="utf-8")
-        wrong.chmod(0o755)
-        yield f"one that {name} is noticed", not all(is_so for _, is_so in trying(wrong))
+def long_script(calls: int) -> list[str]:
+    """Its lines. The last call of each task is an exit."""
+    dice = random.Random(17)
+    begins = [f"begin {dice.randint(1, RACERS)} {call(dice)}" for _ in range(calls - RACERS)]
+    return [SOAKED, *begins, *(f"begin {task} exit" for task in range(1, RACERS + 1))]
 
 
-def tries(program: Path, room: Path) -> Iterator[tuple[str, bool]]:
+def by_task(lines: list[str]) -> dict[str, list[str]]:
+    """The begins of each task."""
+    found: dict[str, list[str]] = {}
+    for line in lines:
+        if line.startswith("begin "):
+            found.setdefault(line.split()[1], []).append(line)
+    return found
+
+
+def lines_of(program: Path, words: str, lines: list[str]) -> list[str]:
+    """What the program writes of these lines."""
+    ran = run(program, words, text(lines))
+    return ran.out.splitlines() if ran.status == 0 else [f"status {ran.status}: {ran.err}"]
+
+
+def trace_fault(program: Path, asked: list[str], trace: list[str]) -> str | None:
+    """What is wrong with the trace of a race of these calls, if anything is."""
+    if len(trace) > MOST:
+        return "the race doesn't fit a trace"
+    if trace[:1] != [SOAKED]:
+        return f"the trace begins with {trace[:1]!r}"
+    if by_task(trace) != by_task(asked):
+        return "the trace has other calls than the script"
+    told = lines_of(program, "replay", trace)
+    outcomes = told[: len(trace) - 1]
+    for at, line in enumerate(outcomes):
+        if line.startswith(("blocked", "refused")):
+            return f"event {at + 1} of the trace is {line}"
+    state = STATE.fullmatch(told[len(trace) - 1])
+    return None if state and state[1] == "0" else f"the replay ends with {told[len(trace) - 1]!r}"
+
+
+def soaked(program: Path) -> Iterator[tuple[str, bool]]:
+    """A long race in threads."""
+    asked = long_script(100_000 if is_proved() else 2_000)
+    for cut in ("", " --cut 1000"):
+        lines = lines_of(program, f"race --times 1{cut}", asked)
+        yield f"race{cut}: {lines}", len(lines) == 1 and bool(RACED.fullmatch(lines[0]))
+    fault = trace_fault(program, asked, lines_of(program, "race --trace", asked))
+    yield f"the trace is a race of the script ({fault})", not fault
+
+
+def tries(program: Path, pool: ThreadPoolExecutor) -> Iterator[tuple[str, bool]]:
     """What is tried, and whether it went as it should."""
-    yield from sizes(program)
-    yield from grown(program)
-    yield from crowds(program)
-    yield from chances(program)
-    yield from many_runs(program)
-    yield from long_traces(program)
-    yield from costs(program)
-    yield from drawn(program)
-    yield from noticed(program, room)
+    slow = (crowds, grown, long_traces, costs, drawn)
+    parts = (*(slow if is_proved() else ()), sizes, chances, many_runs, soaked)
+    for found in pool.map(lambda part: [*part(program)], parts):
+        yield from found
+    print("" if is_proved() else "left out: the largest sizes, long traces and costs: they need the proved program\n", end="")
 
 
 def main() -> int:
-    os.environ["HUGEPOOL"] = "proved"
     subprocess.run(["cargo", "build", "--quiet", "--release", "--manifest-path", PLAIN / "Cargo.toml"], check=True)
-    with tempfile.TemporaryDirectory(prefix="sweep-") as room:
-        return report("sweep", tries(built("hugepool"), Path(room)))
+    with ThreadPoolExecutor(os.cpu_count() or 1) as pool:
+        return report("sweep", tries(tested(), pool))
 
 
 if __name__ == "__main__":

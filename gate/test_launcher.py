@@ -1,8 +1,9 @@
 #!/usr/bin/env python3
-"""Tests which program ./hugepool runs, and when it compiles or proves one, in a small repository with a stand-in for `rt`.
+"""Tests which program ./hugepool runs, when it compiles or proves one, how libraries are proved side by side, and which mutants are due.
 
-The stand-in counts its calls, and builds programs that print how they were built. Of the repository itself it is tested from which crates
-./hugepool takes its programs to be built. Besides: that ./check and .ci/run pass on words and status.
+Each is tried in a small repository with a stand-in for `rt`. One stand-in is a command that counts its calls, and builds programs that
+print how they were built; the other is the toolchain's module as well, which notes when each library is begun and built, and refuses one
+that is begun before those below it are built. Of the repository itself it is tested from which crates ./hugepool takes its programs.
 """
 from __future__ import annotations
 
@@ -15,15 +16,17 @@ import tempfile
 import time
 from concurrent.futures import ThreadPoolExecutor
 from pathlib import Path
-from typing import Iterable, Iterator
+from typing import Callable, Iterable, Iterator
 
-from programs import Ran, report
-from scratch import TOP, below, crates_of
+from mutants import due
+from programs import TOP, Ran, crates_of, of_program, report
+from proving import Library, simulated, speed, with_chains, work_left
 
 NOTICE = "hugepool: not proved yet: the same sources, compiled without proof; ./hugepool build proves them\n"
 # What it makes is a program that prints its words, by which command and at which call of that it was made, and what it reads. Files at the
 # top have it fail (`broken`), take long (`long`), not end (`stuck`), change a source meanwhile (`slow`), or run another file than the one
-# that is looked for, which isn't there (`hidden`) or does nothing (`wrong`).
+# that is looked for, which isn't there (`hidden`) or does nothing (`wrong`). A program runs once the launcher has linked it, which may take
+# long on a busy machine.
 RT = """#!/bin/sh
 verb=$1 top=$(cd ../.. && pwd) crate=${PWD##*/}
 [ ! -e $top/stuck ] || { echo $$ > $top/pid; exec sleep 60; }
@@ -48,21 +51,70 @@ room=$(mktemp -d) name=program status=0
 mkdir $room/native
 [ ! -e $top/wrong ] || { name=other; echo '#!/bin/sh' > $room/native/program; chmod +x $room/native/program; }
 write $room/native/$name
-sleep 0.1
+left=400
+[ ! -e $top/hidden ] && [ ! -e $top/wrong ] || left=4
+while [ $left -gt 0 ] && [ $(stat -c %h $room/native/$name) = 1 ]; do sleep 0.05; left=$((left - 1)); done
 $room/native/$name "$@" || status=$?
 rm -r $room
 echo "run=ended proved=no" >&2
 exit $status
 """
+# As a module it has what launcher/ asks for; as a command it is `rt run`. At the top, the file `free` says how much memory there is,
+# `broken` names a library that isn't proved, and with `stuck` none is.
+MODULE = '''#!/usr/bin/env python3
+import os, sys, time
+from pathlib import Path
+from types import SimpleNamespace
+
+class Crate:
+    def __init__(self, folder, root, known):
+        self.folder, self.name, self.top = folder, Path(folder).name, Path(root)
+    def below(self):
+        lines = (line.split(":") for line in (self.top / "crates.txt").read_text().splitlines())
+        own = {name: low.split() for name, low in lines}
+        return [Crate(str(self.top / "crates" / low), self.top, {}) for low in own if low in closure(self.name, own)]
+    def is_built(self):
+        return Path(self.folder, "built").exists()
+    def planned(self):
+        return 1000
+    def note(self, what):
+        with open(self.top / "notes", "a") as notes:
+            print(what, self.name, os.getpid(), file=notes)
+    def build_rlib(self, words, anew):
+        self.note("begin")
+        print("so far: 1 of 1 functions checked", flush=True)
+        time.sleep(60 if (self.top / "stuck").exists() else 0.5)
+        if (self.top / "broken").read_text() == self.name or not all(low.is_built() for low in self.below()):
+            print("this is why")
+            return 1
+        Path(self.folder, "built").touch()
+        self.note("end")
+        return 0
+
+def closure(name, own):
+    return {*own[name], *(it for low in own[name] for it in closure(low, own))}
+
+rtlib = SimpleNamespace(Crate=Crate, lock=lambda crates: [], root_above=lambda folder: str(Path(folder).parent.parent))
+share_work, processors = lambda is_alone: None, lambda: 3
+free = lambda: int(Path(__file__).parents[1].joinpath("free").read_text())
+if __name__ == '__main__':
+    if not all(low.is_built() for low in Crate(os.getcwd(), rtlib.root_above(os.getcwd()), {}).below()):
+        sys.exit(1)
+    program = Path("out/hugepool")
+    program.write_text("#!/bin/sh\\\\necho proved")
+    program.chmod(0o755)
+'''
 WORDS = ("a", "b")
+CRATES = {"a": [], "a_tests": ["a"], "hugepool": ["a"], "replay": []}
+# two libraries stand on the third, and the program on both
+SIDE_BY_SIDE = {"low": [], "left": ["low"], "right": ["low"], "hugepool": ["left", "right"]}
 
 
 class Room:
     """The small repository, and calls of its launcher."""
 
-    def __init__(self, top: Path, crates: dict[str, list[str]] | None = None, rt: str = RT) -> None:
+    def __init__(self, top: Path, crates: dict[str, list[str]], rt: str = RT) -> None:
         self.top = top
-        crates = crates or {"a": [], "a_tests": ["a"], "hugepool": ["a"], "replay": []}
         for path in ("HANDLES", *(f"crates/{name}/{part}/main.rt" for name in crates for part in ("src", "specs", "proofs"))):
             self.write(path, "")
         self.write("crates.txt", "".join(f"{name}: {' '.join(low)}\n" for name, low in crates.items()))
@@ -112,6 +164,7 @@ def unproved(room: Room) -> Iterator[tuple[str, bool]]:
     first = room.call(read="a line\n")
     yield "other words compile the whole program", first[:2] == (0, "a b by hugepool try 2\na line\n") and first.err.endswith(NOTICE)
     yield "that is kept, too", room.call() == Ran(0, "a b by hugepool try 2\n", NOTICE)
+    yield "what it took is announced the next time", (room.top / "crates/hugepool/out/unproved.seconds").read_text(encoding="utf-8").isdigit()
     yield "then it replays", room.call(("replay",)) == Ran(0, "replay by hugepool try 2\n", NOTICE)
     yield "a word is passed as it is", room.call(("a  *", "", "b")).out == "a  *  b by hugepool try 2\n"
     room.write("status")
@@ -143,8 +196,11 @@ def unproved(room: Room) -> Iterator[tuple[str, bool]]:
 
 def proofs(room: Room) -> Iterator[tuple[str, bool]]:
     """Calls around a proof."""
-    yield "HUGEPOOL=proved proves", room.proved(1, HUGEPOOL="proved") and room.calls("try") == 0
+    where = lambda: room.call((), HUGEPOOL="path").out.strip().removeprefix(str(room.top))
+    yield "for tests that need no proof a path is printed", where() == "/crates/hugepool/out/unproved" and room.calls("try") == 1
+    yield "HUGEPOOL=proved proves", room.proved(1, HUGEPOOL="proved") and room.calls("try") == 1
     yield "then each call runs that", room.call(read="a line\n") == Ran(0, "a b by hugepool run 1\na line\n", "")
+    yield "so do tests", where() == "/crates/hugepool/out/hugepool" and room.proved(1, HUGEPOOL="now")
     told = room.call(("build",))
     yield "what is proved isn't built again", told[:2] == (0, "") and "proved" in told.err and room.calls("run") == 1
     (room.top / "other").mkdir()
@@ -152,9 +208,11 @@ def proofs(room: Room) -> Iterator[tuple[str, bool]]:
     (room.top / "link").symlink_to("other/link")
     yield "a link to a link leads to it", room.proved(1, launcher="link")
     room.write("crates/a/src/main.rt", "new")
-    yield "an edit after a proof is proved", room.proved(2) and room.call() == Ran(0, "a b by hugepool run 2\n", "")
+    is_there = where() == "/crates/hugepool/out/unproved"
+    yield "after an edit tests prove nothing", is_there and room.call(HUGEPOOL="now").out == "a b by hugepool try 2\n"
+    yield "others do", room.proved(2) and room.call() == Ran(0, "a b by hugepool run 2\n", "")
     room.write("crates/a/src/main.rt", "newer")
-    told = room.call(("build",))
+    told = room.call(("build",), HUGEPOOL="now")
     yield "build proves, and runs nothing", told[:2] == (0, "") and room.calls("run") == 3 and room.proved(3)
     room.write("slow")
     room.write("crates/a/src/main.rt", "")
@@ -167,7 +225,6 @@ def proofs(room: Room) -> Iterator[tuple[str, bool]]:
     with ThreadPoolExecutor(3) as pool:
         yield "of three calls at once one proves", all(pool.map(room.proved, [7, 7, 7])) and room.calls("run") == 7
     room.remove("long")
-    yield "none of this was a try", room.calls("try") == 0
 
 
 def failures(room: Room) -> Iterator[tuple[str, bool]]:
@@ -180,24 +237,18 @@ def failures(room: Room) -> Iterator[tuple[str, bool]]:
     room.remove("broken")
     for number in (signal.SIGINT, signal.SIGTERM):
         room.write("stuck")
-        status, is_gone = interrupted(room, number)
+        pid = room.top / "pid"
+        pid.write_text("", encoding="utf-8")
+        ran = room.begin(("build",))
+        while ran.poll() is None and not pid.read_text(encoding="utf-8").endswith("\n"):
+            time.sleep(0.02)
+        ran.send_signal(number)
+        ran.communicate()
         room.remove("stuck")
-        yield f"{number.name} ends a build and what it began", (status, is_gone) == (130, True)
-        yield "and leaves nothing current", not room.is_current()
+        begun = pid.read_text(encoding="utf-8").strip()
+        yield f"{number.name} ends a build and what it began", ran.returncode == 130 and bool(begun) and not Path("/proc", begun).exists()
+        yield "and leaves nothing current", not (room.top / "crates/hugepool/out/hugepool.begun").exists()
     yield "afterwards it is proved", room.proved(6) and room.proved(6)
-
-
-def interrupted(room: Room, number: signal.Signals) -> tuple[int, bool]:
-    """The status of a build that gets a signal, and whether its `rt` is gone."""
-    pid = room.top / "pid"
-    pid.write_text("", encoding="utf-8")
-    ran = room.begin(("build",))
-    while ran.poll() is None and not pid.read_text(encoding="utf-8").endswith("\n"):
-        time.sleep(0.02)
-    ran.send_signal(number)
-    ran.communicate()
-    begun = pid.read_text(encoding="utf-8").strip()
-    return ran.returncode, bool(begun) and not Path("/proc", begun).exists()
 
 
 def staleness(room: Room) -> Iterator[tuple[str, bool]]:
@@ -222,50 +273,14 @@ def staleness(room: Room) -> Iterator[tuple[str, bool]]:
     yield "where it can't compare it proves", room.proved(10)
     room.remove("blind")
     yield "and where it can again, no more", room.proved(10)
-    yield from by_another(room)
-
-
-def by_another(room: Room) -> Iterator[tuple[str, bool]]:
-    """Programs that `rt ci` built."""
-    room.write("crates/hugepool/src/main.rt", "by another command")
-    since = since_now(room)
-    subprocess.run(["../../bin/rt", "run"], cwd=room.top / "crates/hugepool", check=True, stdin=subprocess.DEVNULL)
-    yield "what another command built is taken over", room.proved(11, **since) and room.proved(11)
-    room.write("crates/hugepool/src/main.rt", "newest")
-    yield "what was written since it began isn't in that", room.proved(12, **since) and room.proved(12)
+    for number, text in ((11, "by rt ci"), (12, "since it began")):
+        room.write("crates/hugepool/src/main.rt", text)
+        since = since_now(room) if number == 11 else since
+        if number == 11:
+            subprocess.run(["../../bin/rt", "run"], cwd=room.top / "crates/hugepool", check=True, stdin=subprocess.DEVNULL)
+        yield f"what rt ci built is taken over, but not what was written {text}", room.proved(number, **since) and room.proved(number)
     room.write("crates/hugepool/src/main.rt", "newest of all")
-    yield "what was built before another command began isn't taken over", room.proved(13, **since_now(room))
-    yield from by_paths(room)
-
-
-def by_paths(room: Room) -> Iterator[tuple[str, bool]]:
-    """Calls that look at the paths which an earlier one found, and walk no more."""
-    found = room.top / "found"
-    room.write("bin/find", f'#!/bin/sh\necho "$1" >> {found}\nexec {shutil.which("find")} "$@"\n')
-    is_built = room.proved(13)
-    found.unlink()
-    yield "a call with no change walks over no folder", is_built and room.proved(13) and found.read_text(encoding="utf-8") == "-files0-from\n"
-    kept = room.top / "crates/hugepool/out/hugepool.folders"
-    room.write("crates/hugepool/src/main.rt", "while the paths are looked at")
-    kept.write_text("hugepool/src/main.rt", encoding="utf-8")
-    yield "a path that was newer when the list was made is noticed", room.proved(14) and room.proved(14)
-    source = room.top / "crates/hugepool/src"
-    old, other = source.stat(), room.top / "other_src"
-    shutil.copytree(source, other)
-    room.write("other_src/more.rt", "new")
-    os.utime(other, ns=(old.st_atime_ns, old.st_mtime_ns))
-    source.rename(room.top / "old_src")
-    other.rename(source)
-    yield "a folder in the place of another is walked over", room.proved(15)
-    is_built = room.proved(15)
-    with open(source / "main.rt", "a", encoding="utf-8") as file:
-        file.write("changed in place")
-    yield "a file that changed in its place is noticed", is_built and room.proved(16)
-    room.write("crates.txt", "a:\nhugepool: a\n")
-    is_built = room.proved(17) and room.proved(17)
-    room.write("crates.txt", "a:\na_tests: a\nhugepool: a a_tests\n")
-    os.utime(room.top / "crates.txt", (0, 0))
-    yield "one crate more is noticed, however old the list of crates is", is_built and room.proved(18)
+    yield "what was built before rt ci began isn't taken over", room.proved(13, **since_now(room))
 
 
 def since_now(room: Room) -> dict[str, str]:
@@ -278,38 +293,129 @@ def since_now(room: Room) -> dict[str, str]:
 
 def stands_on(room: Room) -> Iterator[tuple[str, bool]]:
     """From which crates the program of this repository is built."""
-    crates = crates_of(TOP)
-    needed = {"hugepool", *below("hugepool", crates)}
+    needed = of_program()
     yield "the program of this repository is proved", room.proved(1, HUGEPOOL="proved")
-    for name in sorted(crates.keys() - needed):
+    for name in sorted(set(crates_of()) - set(needed)):
         room.write(f"crates/{name}/src/main.rt", "new")
     yield "it doesn't stand on the other crates", room.call() == Ran(0, "a b by hugepool run 1\n", "")
-    for number, name in enumerate(sorted(needed), 2):
+    for number, name in enumerate(needed, 2):
         room.write(f"crates/{name}/src/main.rt", "new")
         yield f"it stands on {name}", room.proved(number)
 
 
-# tells its words, one a line, and ends with another status than 0 or 1
-CHECK = """import sys
-print("".join(f"{it}\\n" for it in sys.argv[1:]), end="")
-sys.exit(3)
-"""
+def notes(room: Room) -> list[list[str]]:
+    """What was begun and built, in order, and by which process."""
+    return [line.rsplit(" ", 1) for line in (room.top / "notes").read_text(encoding="utf-8").splitlines()]
 
 
-def passes_on(room: Room) -> Iterator[tuple[str, bool]]:
-    """What ./check and .ci/run make of the words and of the status."""
-    room.write("gate/check.py", CHECK)
-    (room.top / ".ci").mkdir()
-    for path in ("check", ".ci/run"):
-        shutil.copy(TOP / path, room.top / path)
-    yield "./check passes words and status", room.call(("a  *", "", "b"), launcher="check")[:2] == (3, "a  *\n\nb\n")
-    yield ".ci/run asks for all of it, and ends as that does", room.call((), launcher=".ci/run")[:2] == (3, "")
+def running(room: Room) -> int:
+    """How many of the processes that were begun are still there."""
+    return sum(Path("/proc", pid).exists() for pid in {pid for _, pid in notes(room)})
+
+
+def build(room: Room, *built: str) -> subprocess.Popen:
+    """Begins to build all but these libraries."""
+    for file in (*room.top.glob("crates/*/built"), *room.top.glob("crates/hugepool/out/hugepool*")):
+        file.unlink()
+    for path in ("notes", *(f"crates/{name}/built" for name in built)):
+        room.write(path)
+    return room.begin(("build",))
+
+
+def built(room: Room) -> tuple[int, str]:
+    """The status of a build, and what it says."""
+    ran = build(room)
+    err = ran.communicate()[1]
+    return ran.returncode, err
+
+
+def side_by_side(room: Room) -> Iterator[tuple[str, bool]]:
+    """Libraries that are proved side by side."""
+    room.write("free", "100000")
+    room.write("broken")
+    status, told = built(room)[0], [what for what, _ in notes(room)]
+    yield "all libraries are proved, and the program is built", status == 0 and room.is_current() and len(told) == 6
+    yield "what the others stand on comes first", told[:2] == ["begin low", "end low"]
+    yield "the others are proved side by side", sorted(told[2:4]) == ["begin left", "begin right"]
+    weights = (room.top / "out/weights.txt").read_text(encoding="utf-8")
+    yield "what each took is noted", {"low", "left", "right"} <= {line.split()[0] for line in weights.splitlines()}
+    for free in ("1500", "10"):
+        room.write("free", free)
+        yield f"with {free} bytes one follows the other", built(room)[0] == 0 and notes(room)[3][0].startswith("end")
+    room.write("free", "100000")
+    room.write("broken", "right")
+    status, err = built(room)
+    yield "one that isn't proved is named, with what the prover said", status == 126 and "right is not proved" in err and "this is why" in err
+    yield "then nothing is current, and nothing runs", not room.is_current() and running(room) == 0
+    room.write("broken")
+    room.write("stuck")
+    ran = build(room, "low")
+    while ran.poll() is None and len(notes(room)) < 2:
+        time.sleep(0.05)
+    ran.send_signal(signal.SIGINT)
+    sent = time.monotonic()
+    ran.communicate()
+    room.remove("stuck")
+    is_ended = (ran.returncode, running(room)) == (130, 0) and time.monotonic() - sent < 30
+    yield "an interrupt ends all", is_ended and not room.is_current()
+    yield "afterwards all is proved", built(room)[0] == 0 and room.is_current()
+
+
+def estimates() -> Iterator[tuple[str, bool]]:
+    """The estimate of what is left of a build."""
+    several = with_chains(Library(name, "", frozenset(low), 100.0, 1.0) for name, low in SIDE_BY_SIDE.items())
+    yield "a chain of three on one processor, with what stands beside it", simulated(several, [], set(), 1, 1.0) == 400
+    on_two = lambda left, running: round(simulated(left, running, set(), 2, 1.0))
+    yield "on two processors one job more makes a proof faster", on_two(several, []) == round(100 / speed(2) * 2 + 100)
+    half = [(it, 2, 50.0) for it in several if it.name == "low"]
+    others = [it for it in several if it.name != "low"]
+    yield "of one half is done", on_two(others, half) == round(50 / speed(2) + 100 + 100 / speed(2))
+    yield "half as fast it takes twice as long", simulated(several, [], set(), 1, 2.0) == 800
+    corrected = work_left(100, 100, 0.5), work_left(100, 20, 0.1)
+    yield "a proof that takes longer than is known is corrected by what is done", corrected == (100, 80)
+
+
+def dues(top: Path) -> Iterator[tuple[str, bool]]:
+    """Which mutants are due."""
+    every, tried, later = {"high", "low"}, "2026-01-01T12:00:00+00:00", "2026-01-01T13:00:00+00:00"
+    own = ["git", "-C", top, "-c", "user.name=a", "-c", "user.email=a@b"]
+    git = lambda *words, at="": subprocess.run([*own, *words], capture_output=True, check=True, env={**os.environ, "GIT_COMMITTER_DATE": at})
+
+    def commit(path: str, at: str) -> None:
+        (top / path).parent.mkdir(parents=True, exist_ok=True)
+        (top / path).write_text(at, encoding="utf-8")
+        git("add", "-A")
+        git("commit", "-qm", "one", at=at)
+
+    yield "outside of a repository all are due", due(top, tried, every) == every
+    git("init", "-q")
+    commit("crates/low/src/lib.rt", "2026-01-01T11:00:00+00:00")
+    yield "what was committed before isn't due", due(top, tried, every) == set()
+    yield "without a time all are due", due(top, "soon", every) == every
+    commit("crates/low/proofs/a.antt", later)
+    yield "proofs of the crate don't make them due", due(top, tried, every) == set()
+    for path in ("src/lib.rt", "specs/a.antt", "edits/a.edit", "must-fail/a.edit", "must-not-compile/a.edit"):
+        git("checkout", "-q", "-B", path, "HEAD~0" if path == "src/lib.rt" else "HEAD~1")
+        commit(f"crates/low/{path}", later)
+        yield f"{path} makes those of its own crate due", due(top, tried, every) == {"low"}
+    (top / "crates/high/src").mkdir(parents=True)
+    (top / "crates/high/src/lib.rt").write_text("new", encoding="utf-8")
+    yield "a change that isn't committed does, too", due(top, tried, every) == every
+
+
+def tries_in(part: Callable[[Room], Iterator[tuple[str, bool]]], crates: dict[str, list[str]], rt: str) -> list[tuple[str, bool]]:
+    with tempfile.TemporaryDirectory(prefix="launcher-") as name:
+        return [*part(Room(Path(name), crates, rt))]
 
 
 def tries() -> Iterator[tuple[str, bool]]:
-    for part in (unproved, proofs, staleness, stands_on, passes_on):
-        with tempfile.TemporaryDirectory(prefix="launcher-") as name:
-            yield from part(Room(Path(name), crates_of(TOP) if part is stands_on else None))
+    parts = [*((part, CRATES, RT) for part in (unproved, proofs, staleness)), (stands_on, crates_of(), RT), (side_by_side, SIDE_BY_SIDE, MODULE)]
+    with ThreadPoolExecutor(len(parts)) as pool:
+        for found in pool.map(lambda it: tries_in(*it), parts):
+            yield from found
+    yield from estimates()
+    with tempfile.TemporaryDirectory(prefix="dues-") as name:
+        yield from dues(Path(name))
 
 
 if __name__ == "__main__":

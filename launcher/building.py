@@ -1,4 +1,4 @@
-"""The files beside a program that ./hugepool runs: what it was built from, and a lock while it is being built.
+"""What builds of a program share: the files beside it (what it was built from, a lock meanwhile), signals, and a line that shows progress.
 
 `PROGRAM.begun` lists the folders of sources that there were when the build began, and is as old as that: ./hugepool compares it with
 the sources as they are. It is there only where a build ended well.
@@ -9,9 +9,10 @@ import fcntl
 import os
 import signal
 import sys
+import time
 from contextlib import contextmanager
 from pathlib import Path
-from typing import Iterator
+from typing import Callable, Iterator, TextIO
 
 TOP = Path(__file__).resolve().parent.parent
 INTERRUPTED, FAILED = 130, 126
@@ -59,6 +60,31 @@ class Signals:
 
 
 SIGNALS = Signals()
+
+
+class Line:
+    """A line that shows how far a long task is: on a terminal one that changes in place each second, elsewhere a new one each 15 seconds."""
+
+    def __init__(self, name: str = "hugepool", out: TextIO | None = None) -> None:
+        self.name, self.out = name, out or sys.stderr
+        self.is_terminal = self.out.isatty()
+        self.pause = 1.0 if self.is_terminal else 15.0
+        self.next = time.monotonic()
+
+    def show(self, text: Callable[[], str]) -> None:
+        """Shows the text, which isn't made where something was shown a moment ago."""
+        if time.monotonic() < self.next:
+            return
+        self.next = time.monotonic() + self.pause
+        start, end = ("\r\033[K", "") if self.is_terminal else ("", "\n")
+        print(f"{start}{self.name}: {text()}", end=end, file=self.out, flush=True)
+
+    def clear(self) -> None:
+        """Makes room for what is printed next: an empty line on a terminal, or a pause in a log."""
+        if self.is_terminal:
+            print("\r\033[K", end="", file=self.out, flush=True)
+        else:
+            self.next = time.monotonic() + self.pause
 
 
 def say(text: str) -> None:

@@ -18,13 +18,13 @@ from pathlib import Path
 from typing import BinaryIO
 
 import building
-from building import BuildFailed, Interrupted, SIGNALS, TOP
-from progress import Line
+from building import BuildFailed, Interrupted, Line, SIGNALS, TOP
 
-# processor seconds that each takes to compile, as measured
-SECONDS = {"replay": 25, "hugepool": 60}
+# seconds that each took to compile on an idle machine (2026-11-28); what it took here the last time stands in a file beside the program
+SECONDS = {"replay": 25, "hugepool": 80}
+TOOK = "unproved.seconds"
 # what the program reads while it is looked for: a trace that it works on for a moment
-TRACE = b"pool 1 1 1 1\n" + 10_000 * b"step 1\n"
+TRACE = b"pool 1 1 1 1\n" + 20_000 * b"step 1\n"
 PAUSE = 0.02
 
 
@@ -40,15 +40,24 @@ def take(room: Path, to: Path) -> bool:
     return False
 
 
-def follow(ran: subprocess.Popen, room: Path, to: Path, seconds: int) -> bool:
+def usual(crate: str) -> str:
+    """What a compilation takes, as it is announced."""
+    took = TOP / "crates" / crate / "out" / TOOK
+    if took.is_file():
+        return f"the last one took {took.read_text(encoding='utf-8')} s"
+    return f"an idle machine takes {SECONDS.get(crate, 100)} s"
+
+
+def follow(ran: subprocess.Popen, room: Path, to: Path, crate: str) -> bool:
     """Waits until `rt try` ends, shows how far it is, and returns whether the program that it ran was kept."""
-    began, line, is_taken = time.monotonic(), Line(), False
+    began, line, is_taken, announced = time.monotonic(), Line(), False, usual(crate)
     while ran.poll() is None:
         SIGNALS.look()
         is_taken = is_taken or take(room, to)
-        line.show(lambda: f"compiling without proof, {time.monotonic() - began:.0f} s so far; an idle processor takes {seconds} s")
+        line.show(lambda: f"compiling without proof, {time.monotonic() - began:.0f} s so far; {announced}")
         time.sleep(PAUSE)
     line.clear()
+    (TOP / "crates" / crate / "out" / TOOK).write_text(f"{time.monotonic() - began:.0f}", encoding="utf-8")
     return is_taken
 
 
@@ -62,7 +71,7 @@ def try_once(crate: str, words: list[str], room: Path, printed: BinaryIO, to: Pa
     with open(room / "trace", "rb") as trace, open(room / "log", "w+", encoding="utf-8", errors="replace") as log:
         ran = subprocess.Popen(["rt", "try", "--steps", "1", "--", *words], stdin=trace, stderr=log, **how)
         try:
-            is_taken = follow(ran, room, to, SECONDS.get(crate, 100))
+            is_taken = follow(ran, room, to, crate)
         finally:
             ran.terminate()
             ran.wait()
@@ -113,11 +122,13 @@ def main(crate: str, moment: str, sources: str, notice: str, *words: str) -> int
         print(why, file=sys.stderr)
         return building.FAILED
     except NotKept:
+        if os.environ.get("HUGEPOOL") == "path":
+            building.say("the program was compiled, but can't be kept")
+            return building.FAILED
         print(notice, file=sys.stderr, flush=True)
         os.chdir(TOP / "crates" / "hugepool")
         os.execvp("rt", ["rt", "try", "--", *words])
-    print(notice, file=sys.stderr, flush=True)
-    os.execv(program, [str(program), *words])
+    os.execv(TOP / "hugepool", [str(TOP / "hugepool"), *words])
 
 
 if __name__ == "__main__":

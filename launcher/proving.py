@@ -1,4 +1,4 @@
-"""Libraries that are proved side by side: which is begun when, with how many processors, and how far all are.
+"""Libraries that are proved side by side: which is begun when, with how many processors, and how many minutes are left.
 
 A library can begin as soon as those below it are built. The longest chain of libraries decides how long it all takes, so the libraries that
 stand on it, the urgent ones, share all processors by the prover's own `--jobs`. The others run beside them, one job each: the first and
@@ -15,17 +15,19 @@ from dataclasses import dataclass, field
 from pathlib import Path
 from typing import Iterable
 
-from building import SIGNALS
-from progress import Line
+from building import Line, SIGNALS
 
-ONE = Path(__file__).with_name("toolchain.py")
+ONE = Path(__file__).with_name("prove.py")
 # the seconds by which an urgent library's chain may be shorter than the longest
 SLACK = 15.0
 # what another job adds to the memory of the first, since it is a copy that shares most of it, and how much faster it makes the first
-MORE_MEMORY, MORE_SPEED = 0.5, 0.5
-# how far a library is taken to be, at most, before it has ended
-NEARLY = 0.95
+MORE_MEMORY, MORE_SPEED = 0.5, 0.3
+# of a proof that takes longer than is known, the share that is taken to be left; and the share that has to be done before it is believed
+LEAST_LEFT, BELIEVED = 0.15, 0.2
+# so many seconds of proofs that went as is known are put beside those of this build
+EXPECTED = 120.0
 FUNCTIONS = re.compile(r"^so far: (\d+) of (\d+) functions", re.M)
+BEGUN_WITH_KEPT = ": begins with what a check kept in "
 PAUSE = 0.25
 
 
@@ -53,11 +55,13 @@ class Run:
     began: float = field(default_factory=time.monotonic)
 
     def share(self) -> float:
-        """How much of the library is done, as the prover says, or by the time that has passed."""
-        passed = (time.monotonic() - self.began) * speed(self.jobs) / max(self.library.seconds, 1.0)
+        """How much of the library is done, as the prover says."""
         said = FUNCTIONS.findall(self.log.read_text(encoding="utf-8", errors="replace"))
-        counted = int(said[-1][0]) / max(int(said[-1][1]), 1) if said else 0.0
-        return min(max(counted, passed), NEARLY)
+        return int(said[-1][0]) / max(int(said[-1][1]), 1) if said else 0.0
+
+    def work(self) -> float:
+        """The seconds of one processor that it has had."""
+        return (time.monotonic() - self.began) * speed(self.jobs)
 
     def memory(self) -> float:
         return self.library.memory * (1 + MORE_MEMORY * (self.jobs - 1))
@@ -71,6 +75,12 @@ def speed(jobs: int) -> float:
     return 1 + MORE_SPEED * (jobs - 1)
 
 
+def work_left(known: float, work: float, share: float) -> float:
+    """The work that is left of a proof that has had so much, of what is known to be needed; the share that is done corrects that."""
+    whole = max(known, min(work / share, 3 * known)) if share > BELIEVED and work > known / 2 else known
+    return max(whole - work, LEAST_LEFT * whole)
+
+
 def with_chains(libraries: Iterable[Library]) -> list[Library]:
     """The libraries, those with the longest chain first. They come with each behind those that it stands on."""
     found = list(libraries)
@@ -79,16 +89,55 @@ def with_chains(libraries: Iterable[Library]) -> list[Library]:
     return sorted(found, key=lambda it: -it.chain)
 
 
-def start(library: Library, jobs: int, folder: Path) -> Run:
-    """Begins to prove a library. What the prover prints goes to a file of the folder."""
-    log = folder / f"{library.name}.log"
-    words = [sys.executable, str(ONE), library.folder, str(jobs)]
-    return Run(library, jobs, begin(words, library.folder, log), log)
+def jobs_of(ready: list[Library], active: list[Library], left: list[Library], processors: int) -> dict[str, int]:
+    """How many jobs each library that is ready gets: urgent ones share the processors."""
+    longest = max((it.chain for it in [*active, *left]), default=0.0)
+    is_urgent = lambda it: it.chain >= longest - SLACK
+    urgent = max(1, sum(map(is_urgent, [*active, *ready])))
+    return {it.name: max(1, processors // urgent) if is_urgent(it) else 1 for it in ready}
+
+
+def simulated(left: list[Library], running: list[tuple[Library, int, float]], built: set[str], processors: int, pace: float) -> float:
+    """The seconds until all are built, where those that run have these jobs and this work left, and the others need what is known."""
+    left, built, seconds = list(left), set(built), 0.0
+    works = {library.name: [library, jobs, work] for library, jobs, work in running}
+    while left or works:
+        ready = [it for it in left if it.below <= built]
+        for it, jobs in zip(ready, jobs_of(ready, [work[0] for work in works.values()], left, processors).values()):
+            if len(works) < processors:
+                left.remove(it)
+                works[it.name] = [it, jobs, it.seconds * pace]
+        if not works:
+            return seconds
+        # (with more jobs than processors all are slower)
+        slowed = min(1.0, processors / sum(work[1] for work in works.values()))
+        step = min(work / (speed(jobs) * slowed) for _, jobs, work in works.values())
+        seconds += step
+        for work in works.values():
+            work[2] -= step * speed(work[1]) * slowed
+        ended = {name for name, work in works.items() if work[2] <= 1e-6}
+        works = {name: work for name, work in works.items() if name not in ended}
+        built |= ended
+    return seconds
 
 
 def begin(words: list[str], folder: str, log: Path) -> subprocess.Popen:
     with open(log, "wb") as out:
         return subprocess.Popen(words, cwd=folder, stdin=subprocess.DEVNULL, stdout=out, stderr=subprocess.STDOUT)
+
+
+def start(library: Library, jobs: int, folder: Path) -> Run:
+    """Begins to prove a library. What the prover prints goes to a file of the folder."""
+    log = folder / f"{library.name}.log"
+    words = [sys.executable, str(ONE), "one", library.folder, str(jobs)]
+    return Run(library, jobs, begin(words, library.folder, log), log)
+
+
+def is_from_nothing(logs: Path, name: str) -> bool:
+    """Whether a proof began with nothing that was kept, so that what it took is what a first one takes."""
+    log = logs / f"{name}.log"
+    said = log.read_text(encoding="utf-8", errors="replace") if log.is_file() else BEGUN_WITH_KEPT
+    return bool(FUNCTIONS.search(said)) and BEGUN_WITH_KEPT not in said
 
 
 class Proving:
@@ -100,24 +149,18 @@ class Proving:
         self.runs: dict[int, Run] = {}
         # what each proof took: processor seconds, and the bytes of its largest process
         self.took: dict[str, tuple[float, int]] = {}
-        self.line, self.began, self.whole = Line(), time.monotonic(), self.ideal()
-
-    def ready(self) -> list[Library]:
-        """What can begin now, the longest chain first."""
-        return [it for it in self.left if it.below <= self.built]
+        # the work of the proofs that have ended, and what was known of them
+        self.work, self.known, self.line = EXPECTED, EXPECTED, Line()
 
     def begin_ready(self) -> None:
-        """Begins what there are processors and memory for. Where nothing runs, one begins whatever memory there is."""
-        active = [run.library for run in self.runs.values()]
-        longest = max((it.chain for it in [*active, *self.left]), default=0.0)
-        is_urgent = {it.name: it.chain >= longest - SLACK for it in [*active, *self.ready()]}
-        urgent = max(1, sum(is_urgent.values()))
-        for it in self.ready():
-            most = max(1, self.processors // urgent) if is_urgent[it.name] else 1
-            jobs = self.jobs_that_fit(it, most)
-            if len(self.runs) < self.processors and jobs:
+        """Begins what there are processors and memory for, the longest chain first. Where nothing runs, one begins whatever memory there is."""
+        ready = [it for it in self.left if it.below <= self.built]
+        jobs = jobs_of(ready, [run.library for run in self.runs.values()], self.left, self.processors)
+        for it in ready:
+            fit = self.jobs_that_fit(it, jobs[it.name])
+            if len(self.runs) < self.processors and fit:
                 self.left.remove(it)
-                self.follow(start(it, jobs, self.logs))
+                self.follow(start(it, fit, self.logs))
 
     def jobs_that_fit(self, library: Library, most: int) -> int:
         """So many jobs of a library fit into the memory that the others leave; one does where nothing else runs."""
@@ -141,6 +184,7 @@ class Proving:
                 SIGNALS.look()
                 raise NotProved(run.library.name)
             self.built.add(run.library.name)
+            self.work, self.known = self.work + run.work(), self.known + run.library.seconds
             self.took[run.library.name] = used.ru_utime + used.ru_stime, used.ru_maxrss * 1024
 
     def prove(self) -> None:
@@ -163,18 +207,17 @@ class Proving:
         for run in self.runs.values():
             run.process.wait()
 
-    def ideal(self) -> float:
-        """The seconds that what is left takes where each processor is used, or where the longest chain decides."""
-        shares = {run.library.name: run.share() for run in self.runs.values()}
-        unbuilt = [it for it in self.libraries if it.name not in self.built]
-        work = sum(it.seconds * (1 - shares.get(it.name, 0.0)) for it in unbuilt)
-        chain = max((it.chain - it.seconds * shares.get(it.name, 0.0) for it in unbuilt), default=0.0)
-        return max(work / self.processors, chain / speed(self.processors))
+    def seconds_left(self) -> float:
+        """The estimate: what is known of each proof, by the pace of those that have ended here, in the order in which they will run."""
+        pace = self.work / self.known
+        running = [(run.library, run.jobs, work_left(run.library.seconds * pace, run.work(), run.share())) for run in self.runs.values()]
+        names = {it.name for it in self.left} | {run.library.name for run in self.runs.values()}
+        # (the program waits beside the others until the libraries are proved)
+        waiting = [it for it in self.libraries if it.name not in self.built and it.name not in names]
+        return simulated([*self.left, *waiting], running, self.built, self.processors, pace)
 
     def told(self) -> str:
-        """How many crates are proved, how far the others are, and how many minutes are left by the pace so far."""
-        left = self.ideal()
-        # (at first the pace is taken to be the ideal one)
-        pace = (time.monotonic() - self.began + 60) / (self.whole - left + 60)
+        """How many crates are proved, how many functions of the others, and how many minutes are left."""
         now = ", ".join(f"{run.library.name} ({run.share():.0%})" for run in self.runs.values())
-        return f"{len(self.built)} of {len(self.libraries)} crates proved; proving {now}; about {max(1, round(left * pace / 60))} min left"
+        minutes = max(1, round(self.seconds_left() / 60))
+        return f"{len(self.built)} of {len(self.libraries)} crates proved; proving {now}; about {minutes} min left"
