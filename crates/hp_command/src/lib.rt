@@ -15,4 +15,7 @@ mod texts;
 mod view;
 
 pub use reading::read_words;
-pub use request::{Asked, Input, Racing, Request, Scheduling, Search, When};
+pub use request::{
+    Asked, Input, PoolRequest, Racing, Request, Scheduling, ScriptRequest, Search, TraceRequest,
+    When,
+};

@@ -1,7 +1,10 @@
 //! The words of a command line, read.
 use crate::commands::{FIND, MINIMIZE, program};
 use crate::conditions::read_conditions;
-use crate::request::{Asked, Input, Racing, Request, Scheduling, Search, When};
+use crate::request::{
+    Asked, Input, PoolRequest, Racing, Request, Scheduling, ScriptRequest, Search, TraceRequest,
+    When,
+};
 use crate::view::read_view;
 use clap::{ArgMatches, Error};
 use hp_explain::View;
@@ -35,16 +38,16 @@ fn audit(given: &ArgMatches) -> Audit {
     }
 }
 
-fn exploring(given: &ArgMatches) -> Request {
+fn exploring(given: &ArgMatches) -> ScriptRequest {
     let (seed, runs, chances) = (seed(given), number(given, "runs", 10), chances(given));
     if given.get_flag("summary") {
-        return Request::Summarize(Survey {
+        return ScriptRequest::Summarize(Survey {
             seed,
             runs,
             chances,
         });
     }
-    Request::Explore(Exploration {
+    ScriptRequest::Explore(Exploration {
         seed,
         runs,
         chances,
@@ -52,85 +55,87 @@ fn exploring(given: &ArgMatches) -> Request {
     })
 }
 
-fn scheduling(given: &ArgMatches) -> Request {
-    Request::Schedule(Scheduling {
+fn scheduling(given: &ArgMatches) -> ScriptRequest {
+    ScriptRequest::Schedule(Scheduling {
         seed: seed(given),
         run: number(given, "run", 0),
         chances: chances(given),
     })
 }
 
-fn finding(alloc: Global, given: &ArgMatches) -> Result<Request, Error> {
+fn finding(alloc: Global, given: &ArgMatches) -> Result<ScriptRequest, Error> {
     let conditions = read_conditions(alloc, given, &FIND)?;
     let hunt = Hunt {
         seed: seed(given),
         limit: number(given, "limit", 65_536),
         chances: chances(given),
     };
-    Ok(Request::Find(Search { hunt, conditions }))
+    Ok(ScriptRequest::Find(Search { hunt, conditions }))
 }
 
-fn racing(given: &ArgMatches) -> Request {
+fn racing(given: &ArgMatches) -> ScriptRequest {
     let chances = race::Chances {
         seed: seed(given),
         deny: number(given, "deny", 0),
         kill: number(given, "kill", 0),
     };
     if given.get_flag("trace") {
-        return Request::Race(Racing::Trace { chances });
+        return ScriptRequest::Race(Racing::Trace { chances });
     }
-    Request::Race(Racing::Times {
+    ScriptRequest::Race(Racing::Times {
         times: number(given, "times", 10),
         cut: given.get_one::<u32>("cut").and_then(NonZeroU32::new),
         chances,
     })
 }
 
-fn working(alloc: Global, given: &ArgMatches) -> Result<Request, AllocError> {
+fn working(alloc: Global, given: &ArgMatches) -> Result<PoolRequest, AllocError> {
     let name = String::from_str(alloc, given.get_str("NAME").unwrap_or(""))?;
     let driver = String::from_str(alloc, given.get_str("on").unwrap_or("core"))?;
     if given.get_flag("trace") {
-        return Ok(Request::TraceWork { name, driver });
+        return Ok(PoolRequest::TraceWork { name, driver });
     }
-    Ok(Request::Work { name, driver })
+    Ok(PoolRequest::Work { name, driver })
 }
 
-fn explaining(alloc: Global, given: &ArgMatches) -> Result<Request, Error> {
+fn explaining(alloc: Global, given: &ArgMatches) -> Result<TraceRequest, Error> {
     let view = read_view(alloc, given)?;
     if given.get_flag("json") {
-        return Ok(Request::ExplainJson(view));
+        return Ok(TraceRequest::ExplainJson(view));
     }
-    Ok(Request::Explain(view))
+    Ok(TraceRequest::Explain(view))
 }
 
-fn replaying(given: &ArgMatches) -> Request {
+fn replaying(given: &ArgMatches) -> TraceRequest {
     if given.get_flag("json") {
-        return Request::ExplainJson(View::whole());
+        return TraceRequest::ExplainJson(View::whole());
     }
-    Request::Replay
+    TraceRequest::Replay
 }
 
-fn drawing(given: &ArgMatches) -> Request {
+fn drawing(given: &ArgMatches) -> TraceRequest {
     if given.get_flag("html") {
-        return Request::Page;
+        return TraceRequest::Page;
     }
-    Request::Draw
+    TraceRequest::Draw
 }
 
 fn request(alloc: Global, name: &str, given: &ArgMatches) -> Result<Request, Error> {
     Ok(match name {
-        "explore" => exploring(given),
-        "check" => Request::Check,
-        "explain" => explaining(alloc, given)?,
-        "draw" => drawing(given),
-        "schedule" => scheduling(given),
-        "find" => finding(alloc, given)?,
-        "minimize" => Request::Minimize(read_conditions(alloc, given, &MINIMIZE)?),
-        "format" => Request::Format,
-        "step" => Request::Step,
-        "race" => racing(given),
-        "work" => working(alloc, given)?,
-        _ => replaying(given),
+        "explore" => Request::Script(exploring(given)),
+        "check" => Request::Trace(TraceRequest::Check),
+        "explain" => Request::Trace(explaining(alloc, given)?),
+        "draw" => Request::Trace(drawing(given)),
+        "schedule" => Request::Script(scheduling(given)),
+        "find" => Request::Script(finding(alloc, given)?),
+        "minimize" => Request::Script(ScriptRequest::Minimize(read_conditions(
+            alloc, given, &MINIMIZE,
+        )?)),
+        "format" => Request::Trace(TraceRequest::Format),
+        "step" => Request::Pool(PoolRequest::Step),
+        "race" => Request::Script(racing(given)),
+        "work" => Request::Pool(working(alloc, given)?),
+        _ => Request::Trace(replaying(given)),
     })
 }
 

@@ -35,41 +35,59 @@ pub enum Racing {
     },
 }
 
-/// What the command line asks for.
+/// What is done with a trace.
 #[derive(Drop)]
-pub enum Request {
-    /// To read a trace and run it.
+pub enum TraceRequest {
+    /// To read it and run it.
     Replay,
+    /// To read it, and count its events.
+    Check,
+    /// To read it, and explain it.
+    Explain(View),
+    /// To read it, and explain it in lines of JSON.
+    ExplainJson(View),
+    /// To read it, and draw it.
+    Draw,
+    /// To read it, and write it as a page.
+    Page,
+    /// To read it in the loose form, and write it in the strict one.
+    Format,
+}
+
+/// What is done with a script, and with a trace that a script's run left.
+#[derive(Drop)]
+pub enum ScriptRequest {
     /// To read a script, and print a line for each of its runs.
     Explore(Exploration),
     /// To read a script, and summarize its runs.
     Summarize(Survey),
-    /// To read a trace, and count its events.
-    Check,
-    /// To read a trace, and explain it.
-    Explain(View),
-    /// To read a trace, and explain it in lines of JSON.
-    ExplainJson(View),
-    /// To read a trace, and draw it.
-    Draw,
-    /// To read a trace, and write it as a page.
-    Page,
     /// To read a script, and write one run of it as a trace.
     Schedule(Scheduling),
     /// To read a script, and write a run of it that meets conditions as a trace.
     Find(Search),
     /// To read a trace that meets conditions, and write a small one that still does.
     Minimize(Vec<Condition>),
-    /// To read a trace in the loose form, and write it as a strict one.
-    Format,
-    /// To drive a pool line by line.
-    Step,
     /// To read a script, and race its tasks.
     Race(Racing),
+}
+
+/// What is done with a pool that runs.
+#[derive(Drop)]
+pub enum PoolRequest {
+    /// To drive it line by line.
+    Step,
     /// To run a workload of this name over a driver.
     Work { name: String, driver: String },
     /// To run a workload of this name, and write what its calls do as a trace.
     TraceWork { name: String, driver: String },
+}
+
+/// What the command line asks for.
+#[derive(Drop)]
+pub enum Request {
+    Trace(TraceRequest),
+    Script(ScriptRequest),
+    Pool(PoolRequest),
 }
 
 /// What a command reads.

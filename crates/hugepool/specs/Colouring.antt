@@ -4,7 +4,13 @@ use Rattle.hugepool.specs.declared.colouring.Surroundings.{Surroundings}
 use Rattle.hp_command.specs.declared.request.When.{When}
 use Rattle.hp_command.specs.declared.request.When.TheVariants.{Auto, Always, Never}
 use Rattle.hp_command.specs.declared.request.Request.{Request}
-use Rattle.hp_command.specs.declared.request.Request.TheVariants as request
+use Rattle.hp_command.specs.declared.request.Request.TheVariants.{Trace, Script, Pool}
+use Rattle.hp_command.specs.declared.request.TraceRequest.{TraceRequest}
+use Rattle.hp_command.specs.declared.request.TraceRequest.TheVariants as trace
+use Rattle.hp_command.specs.declared.request.ScriptRequest.{ScriptRequest}
+use Rattle.hp_command.specs.declared.request.ScriptRequest.TheVariants as script
+use Rattle.hp_command.specs.declared.request.PoolRequest.{PoolRequest}
+use Rattle.hp_command.specs.declared.request.PoolRequest.TheVariants as pool
 use Rattle.hp_paint.specs.declared.palette.Palette.{Palette}
 use Rattle.hp_paint.specs.declared.palette.Palette.TheVariants.{Outcomes, Runs, Races, Work}
 use Rattle.hp_command.specs.declared.request.Racing.{Racing}
@@ -15,24 +21,36 @@ abbrev pub palette_of_racing : Racing → Option Palette
 palette_of_racing (racing.Times times cut chances) = Some Races
 palette_of_racing (racing.Trace chances) = None
 
--- neither have pictures, pages, traces, counts and lines of JSON
+-- pictures, pages, traces, counts and lines of JSON have no words to be coloured
+abbrev pub palette_of_trace : TraceRequest → Option Palette
+palette_of_trace trace.Replay = Some Outcomes
+palette_of_trace trace.Check = None
+palette_of_trace (trace.Explain view) = Some Outcomes
+palette_of_trace (trace.ExplainJson view) = None
+palette_of_trace trace.Draw = None
+palette_of_trace trace.Page = None
+palette_of_trace trace.Format = None
+
+-- nor have traces that are written of a script's runs
+abbrev pub palette_of_script : ScriptRequest → Option Palette
+palette_of_script (script.Explore exploration) = Some Runs
+palette_of_script (script.Summarize survey) = Some Outcomes
+palette_of_script (script.Schedule scheduling) = None
+palette_of_script (script.Find search) = None
+palette_of_script (script.Minimize conditions) = None
+palette_of_script (script.Race r) = palette_of_racing r
+
+-- nor has the trace of a workload
+abbrev pub palette_of_pool : PoolRequest → Option Palette
+palette_of_pool pool.Step = Some Outcomes
+palette_of_pool (pool.Work name driver) = Some Work
+palette_of_pool (pool.TraceWork name driver) = None
+
+-- the words that are coloured at each request
 abbrev pub palette_of : Request → Option Palette
-palette_of request.Replay = Some Outcomes
-palette_of (request.Explore exploration) = Some Runs
-palette_of (request.Summarize survey) = Some Outcomes
-palette_of request.Check = None
-palette_of (request.Explain view) = Some Outcomes
-palette_of (request.ExplainJson view) = None
-palette_of request.Draw = None
-palette_of request.Page = None
-palette_of (request.Schedule scheduling) = None
-palette_of (request.Find search) = None
-palette_of (request.Minimize conditions) = None
-palette_of request.Format = None
-palette_of request.Step = Some Outcomes
-palette_of (request.Race r) = palette_of_racing r
-palette_of (request.Work name driver) = Some Work
-palette_of (request.TraceWork name driver) = None
+palette_of (Trace r) = palette_of_trace r
+palette_of (Script r) = palette_of_script r
+palette_of (Pool r) = palette_of_pool r
 
 -- by itself at a terminal, unless the environment is against it
 abbrev pub paints : When → Surroundings → Bool

@@ -6,7 +6,13 @@ use Rattle.clap.specs.declared.error.Error.{Error}
 use Rattle.clap.specs.declared.error.kind.ErrorKind.TheVariants.{OutOfMemory, DisplayHelp, DisplayVersion}
 use Rattle.hp_command.specs.declared.request.Asked.{Asked}
 use Rattle.hp_command.specs.declared.request.Request.{Request}
-use Rattle.hp_command.specs.declared.request.Request.TheVariants as request
+use Rattle.hp_command.specs.declared.request.Request.TheVariants.{Trace, Script, Pool}
+use Rattle.hp_command.specs.declared.request.TraceRequest.{TraceRequest}
+use Rattle.hp_command.specs.declared.request.TraceRequest.TheVariants as trace
+use Rattle.hp_command.specs.declared.request.ScriptRequest.{ScriptRequest}
+use Rattle.hp_command.specs.declared.request.ScriptRequest.TheVariants as script
+use Rattle.hp_command.specs.declared.request.PoolRequest.{PoolRequest}
+use Rattle.hp_command.specs.declared.request.PoolRequest.TheVariants as pool
 use Rattle.hp_pool_commands.specs.Stepping.{AnsweredStep}
 use Rattle.hp_pool_commands.specs.Working.{AnsweredTrace, AnsweredWork, status_of_work}
 use Rattle.hp_program.specs.Answers.{IfThere, status_of_runs, status_of_text}
@@ -25,43 +31,58 @@ use Rattle.hp_trace_commands.specs.Traces.{AnsweredCheck, AnsweredDraw, Answered
 abbrev pub EndsWith : {A : Type 0} → (status_of : A → ℕ) → (status : ℕ) → (A → Type 0) → Type 0
 EndsWith {A} status_of status P = (answer : A) × (status ≡ status_of answer) × P answer
 
+-- how it ends at each request for something to be done with a trace
+abbrev pub EndsTrace : TraceRequest → (status : ℕ) → (from to : Option (List ℕ)) → (old new : ℕ)
+    → (before : Option (List ℕ)) → (after : Option (Option (List ℕ))) → Type 0
+EndsTrace trace.Replay status from to old new before after =
+    EndsWith status_of_text status (λ answer. DidReplay answer from to old new before after)
+EndsTrace trace.Check status from to old new before after =
+    EndsWith status_of_text status (λ answer. AnsweredCheck answer from to old new before after)
+EndsTrace (trace.Explain v) status from to old new before after =
+    EndsWith status_of_text status (λ answer. AnsweredExplain v answer from to old new before after)
+EndsTrace (trace.ExplainJson v) status from to old new before after =
+    EndsWith status_of_text status (λ answer. AnsweredJson v answer from to old new before after)
+EndsTrace trace.Draw status from to old new before after =
+    EndsWith status_of_text status (λ answer. AnsweredDraw answer from to old new before after)
+EndsTrace trace.Page status from to old new before after =
+    EndsWith status_of_text status (λ answer. AnsweredPage answer from to old new before after)
+EndsTrace trace.Format status from to old new before after =
+    EndsWith status_of_format status (λ answer. AnsweredFormat answer from to old new before after)
+
+-- with a script, or with a trace that a run of one left
+abbrev pub EndsScript : ScriptRequest → (status : ℕ) → (from to : Option (List ℕ)) → (old new : ℕ)
+    → (before : Option (List ℕ)) → (after : Option (Option (List ℕ))) → Type 0
+EndsScript (script.Explore e) status from to old new before after =
+    EndsWith status_of_runs status (λ answer. AnsweredExplore e answer from to old new before after)
+EndsScript (script.Summarize v) status from to old new before after =
+    EndsWith status_of_runs status (λ answer. AnsweredSummary v answer from to old new before after)
+EndsScript (script.Schedule s) status from to old new before after =
+    EndsWith status_of_text status (λ answer. AnsweredSchedule s answer from to old new before after)
+EndsScript (script.Find s) status from to old new before after =
+    EndsWith status_of_runs status (λ answer. AnsweredFind s answer from to old new before after)
+EndsScript (script.Minimize conditions) status from to old new before after =
+    EndsWith status_of_runs status (λ answer. AnsweredMinimize conditions.items answer from to old new before after)
+EndsScript (script.Race r) status from to old new before after =
+    EndsWith status_of_runs status (λ answer. AnsweredRace r answer from to old new before after)
+
+-- with a pool that runs
+abbrev pub EndsPool : PoolRequest → (status : ℕ) → (from to : Option (List ℕ)) → (old new : ℕ)
+    → (before : Option (List ℕ)) → (after : Option (Option (List ℕ))) → Type 0
+EndsPool pool.Step status from to old new before after =
+    EndsWith status_of_text status (λ answer. AnsweredStep answer old new after)
+EndsPool (pool.Work name driver) status from to old new before after =
+    EndsWith status_of_work status (λ answer. (new ≡ old) × Keeps from to
+    × IfThere after (AnsweredWork (record { name = name; driver = driver }) answer before))
+EndsPool (pool.TraceWork name driver) status from to old new before after =
+    EndsWith status_of_work status (λ answer. (new ≡ old) × Keeps from to
+    × IfThere after (AnsweredTrace (record { name = name; driver = driver }) answer before))
+
 -- how it ends at each request
 abbrev pub Ends : Request → (status : ℕ) → (from to : Option (List ℕ)) → (old new : ℕ) → (before : Option (List ℕ))
     → (after : Option (Option (List ℕ))) → Type 0
-Ends request.Replay status from to old new before after =
-    EndsWith status_of_text status (λ answer. DidReplay answer from to old new before after)
-Ends (request.Explore e) status from to old new before after =
-    EndsWith status_of_runs status (λ answer. AnsweredExplore e answer from to old new before after)
-Ends (request.Summarize v) status from to old new before after =
-    EndsWith status_of_runs status (λ answer. AnsweredSummary v answer from to old new before after)
-Ends request.Check status from to old new before after =
-    EndsWith status_of_text status (λ answer. AnsweredCheck answer from to old new before after)
-Ends (request.Explain v) status from to old new before after =
-    EndsWith status_of_text status (λ answer. AnsweredExplain v answer from to old new before after)
-Ends (request.ExplainJson v) status from to old new before after =
-    EndsWith status_of_text status (λ answer. AnsweredJson v answer from to old new before after)
-Ends request.Draw status from to old new before after =
-    EndsWith status_of_text status (λ answer. AnsweredDraw answer from to old new before after)
-Ends request.Page status from to old new before after =
-    EndsWith status_of_text status (λ answer. AnsweredPage answer from to old new before after)
-Ends (request.Schedule s) status from to old new before after =
-    EndsWith status_of_text status (λ answer. AnsweredSchedule s answer from to old new before after)
-Ends (request.Find s) status from to old new before after =
-    EndsWith status_of_runs status (λ answer. AnsweredFind s answer from to old new before after)
-Ends (request.Minimize conditions) status from to old new before after =
-    EndsWith status_of_runs status (λ answer. AnsweredMinimize conditions.items answer from to old new before after)
-Ends request.Format status from to old new before after =
-    EndsWith status_of_format status (λ answer. AnsweredFormat answer from to old new before after)
-Ends request.Step status from to old new before after =
-    EndsWith status_of_text status (λ answer. AnsweredStep answer old new after)
-Ends (request.Race r) status from to old new before after =
-    EndsWith status_of_runs status (λ answer. AnsweredRace r answer from to old new before after)
-Ends (request.Work name driver) status from to old new before after =
-    EndsWith status_of_work status (λ answer. (new ≡ old) × Keeps from to
-    × IfThere after (AnsweredWork (record { name = name; driver = driver }) answer before))
-Ends (request.TraceWork name driver) status from to old new before after =
-    EndsWith status_of_work status (λ answer. (new ≡ old) × Keeps from to
-    × IfThere after (AnsweredTrace (record { name = name; driver = driver }) answer before))
+Ends (Trace r) status from to old new before after = EndsTrace r status from to old new before after
+Ends (Script r) status from to old new before after = EndsScript r status from to old new before after
+Ends (Pool r) status from to old new before after = EndsPool r status from to old new before after
 
 -- the words ask for help
 abbrev pub IsHelp : Error → Type 0
@@ -87,8 +108,8 @@ pub record EndsUnasked (error : Error) (status : ℕ) (from to : Option (List �
   pub refused : ¬ IsHelp error → Refused error status before after
 
 -- how it ends, as the words were read
-abbrev pub EndsAsAsked : Result Asked Error → (status : ℕ) → (from to : Option (List ℕ)) → (old new : ℕ) → (before : Option (List ℕ))
-    → (after : Option (Option (List ℕ))) → Type 0
+abbrev pub EndsAsAsked : Result Asked Error → (status : ℕ) → (from to : Option (List ℕ)) → (old new : ℕ)
+    → (before : Option (List ℕ)) → (after : Option (Option (List ℕ))) → Type 0
 EndsAsAsked asked status from to old new before after =
     IfOk asked (λ it. Ends it.request status from to old new before after)
     × IfErr asked (λ error. EndsUnasked error status from to old new before after)

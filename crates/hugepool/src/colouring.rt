@@ -1,8 +1,8 @@
 //! When words are coloured: what `--color` says, and what is known of the terminal.
 ghost use Rattle.std.specs.Prelude.{◌≡◌};
-ghost use Rattle.hugepool.specs.Colouring.{palette_of, paints};
+ghost use Rattle.hugepool.specs.Colouring.{paints, palette_of, palette_of_pool, palette_of_script, palette_of_trace};
 
-use hp_command::{Asked, Racing, Request, When};
+use hp_command::{Asked, PoolRequest, Racing, Request, ScriptRequest, TraceRequest, When};
 use hp_paint::Palette;
 use std::env;
 use std::env::VarError;
@@ -18,27 +18,54 @@ struct Surroundings {
     is_dumb: bool,
 }
 
+// The words that are coloured in what is written of a trace, if any are.
+fn palette_of_trace(request: &TraceRequest) -> Option<Palette>
+    ensures { result ≡ palette_of_trace request.now }
+{
+    match request {
+        TraceRequest::Replay | TraceRequest::Explain(_) => Some(Palette::Outcomes),
+        TraceRequest::Check
+        | TraceRequest::ExplainJson(_)
+        | TraceRequest::Draw
+        | TraceRequest::Page
+        | TraceRequest::Format => None,
+    }
+}
+
+// The words that are coloured in what is written of a script's runs, if any are.
+fn palette_of_script(request: &ScriptRequest) -> Option<Palette>
+    ensures { result ≡ palette_of_script request.now }
+{
+    match request {
+        ScriptRequest::Explore(_) => Some(Palette::Runs),
+        ScriptRequest::Summarize(_) => Some(Palette::Outcomes),
+        ScriptRequest::Race(Racing::Times { .. }) => Some(Palette::Races),
+        ScriptRequest::Race(Racing::Trace { .. })
+        | ScriptRequest::Schedule(_)
+        | ScriptRequest::Find(_)
+        | ScriptRequest::Minimize(_) => None,
+    }
+}
+
+// The words that are coloured in what is written of a pool, if any are.
+fn palette_of_pool(request: &PoolRequest) -> Option<Palette>
+    ensures { result ≡ palette_of_pool request.now }
+{
+    match request {
+        PoolRequest::Step => Some(Palette::Outcomes),
+        PoolRequest::Work { .. } => Some(Palette::Work),
+        PoolRequest::TraceWork { .. } => None,
+    }
+}
+
 // The words that are coloured in what is written at a request, if any are.
 fn palette_of(request: &Request) -> Option<Palette>
     ensures { result ≡ palette_of request.now }
 {
     match request {
-        Request::Replay | Request::Explain(_) | Request::Step | Request::Summarize(_) => {
-            Some(Palette::Outcomes)
-        }
-        Request::Explore(_) => Some(Palette::Runs),
-        Request::Race(Racing::Times { .. }) => Some(Palette::Races),
-        Request::Work { .. } => Some(Palette::Work),
-        Request::Race(Racing::Trace { .. })
-        | Request::Check
-        | Request::ExplainJson(_)
-        | Request::Draw
-        | Request::Page
-        | Request::Schedule(_)
-        | Request::Find(_)
-        | Request::Minimize(_)
-        | Request::Format
-        | Request::TraceWork { .. } => None,
+        Request::Trace(request) => palette_of_trace(request),
+        Request::Script(request) => palette_of_script(request),
+        Request::Pool(request) => palette_of_pool(request),
     }
 }
 

@@ -5,6 +5,7 @@
 //! are shown by the rows of `examples/commands`. It knows nothing of pools.
 #![tactic(auto)]
 
+mod answering;
 mod colouring;
 mod hinting;
 mod input;

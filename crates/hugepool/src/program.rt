@@ -2,22 +2,18 @@
 ghost use Rattle.std.specs.Prelude.{◌≡◌, ◌≢◌};
 ghost use Rattle.std.specs.Option.{option_map};
 ghost use Rattle.clap.specs.Values.{kind_of};
-ghost use Rattle.hp_program.specs.Answers.{status_of_runs, status_of_text};
 ghost use Rattle.hugepool.specs.Requests.{AnsweredHelp, Ends, EndsAsAsked, EndsUnasked};
 ghost use Rattle.hugepool.specs.Status.{status_at, status_of};
 
+use crate::answering::answer;
 use crate::hinting::{hint_format, hint_script};
-use crate::stop::{Missed, Stop, stop_of_format, stop_of_runs, stop_of_text, stop_of_work};
+use crate::stop::{Stop, stop_of_text};
 use clap::error::ErrorKind;
-use hp_command::{Asked, Request};
+use hp_command::{Asked, Request, ScriptRequest, TraceRequest};
 use hp_diagnostics::Recalls;
-use hp_pool_commands::{WorkWords, run_step, run_trace_work, run_work};
-use hp_program::{run_replay, write_fault};
-use hp_script_commands::{
-    Report, run_explore, run_find, run_minimize, run_race, run_schedule, run_summarize,
-};
+use hp_program::write_fault;
+use hp_script_commands::Report;
 use hp_text::{ReplayFault, Source};
-use hp_trace_commands::{run_check, run_draw, run_explain, run_explain_json, run_format, run_page};
 use std::alloc::Global;
 use std::io;
 use std::io::Write;
@@ -78,13 +74,14 @@ fn carry_out<H: Clock + Files + Threads + Wait + Sync, R: Source + Recalls, W: W
 fn reads_trace(request: &Request) -> bool {
     matches!(
         request,
-        Request::Replay
-            | Request::Check
-            | Request::Explain(_)
-            | Request::ExplainJson(_)
-            | Request::Draw
-            | Request::Page
-            | Request::Minimize(_)
+        Request::Trace(
+            TraceRequest::Replay
+                | TraceRequest::Check
+                | TraceRequest::Explain(_)
+                | TraceRequest::ExplainJson(_)
+                | TraceRequest::Draw
+                | TraceRequest::Page
+        ) | Request::Script(ScriptRequest::Minimize(_))
     )
 }
 
@@ -92,7 +89,12 @@ fn reads_trace(request: &Request) -> bool {
 fn shows_run(request: &Request) -> bool {
     matches!(
         request,
-        Request::Replay | Request::Explain(_) | Request::Draw | Request::Page
+        Request::Trace(
+            TraceRequest::Replay
+                | TraceRequest::Explain(_)
+                | TraceRequest::Draw
+                | TraceRequest::Page
+        )
     )
 }
 
@@ -114,81 +116,6 @@ fn tell<R: Recalls>(stop: &Stop, reader: &R, faults: &mut impl Write) -> io::Res
     match stop {
         Stop::Replay(fault) => write_fault(*fault, reader, faults),
         _ => write!(faults, "{stop}"),
-    }
-}
-
-// What a command that writes a text answers, and its output.
-fn text<W>(ran: (Result<(), ReplayFault>, Option<W>)) -> (Result<(), Stop>, Option<W>)
-    ensures stop { status_at result.0 ≡ status_of_text ran.0 }
-    ensures out { result.1 ≡ ran.1 }
-{
-    (stop_of_text(ran.0), ran.1)
-}
-
-// What a command answers that says whether something is so, and its output.
-fn runs<W>(
-    ran: (Result<bool, ReplayFault>, Option<W>),
-    missed: Missed,
-) -> (Result<(), Stop>, Option<W>)
-    ensures stop { status_at result.0 ≡ status_of_runs ran.0 }
-    ensures out { result.1 ≡ ran.1 }
-{
-    (stop_of_runs(ran.0, missed), ran.1)
-}
-
-// What is answered to a request.
-fn answer<H: Clock + Files + Threads + Wait + Sync, R: Source, W: Write + Drop>(
-    rt: &H,
-    alloc: Global,
-    request: Request,
-    reader: &mut R,
-    out: W,
-    faults: &mut impl Report,
-) -> (Result<(), Stop>, Option<W>)
-    ensures { Ends request (status_at result.0) (R.remaining reader.old) (R.remaining reader.new) (R.failures reader.old)
-        (R.failures reader.new) (W.contents out) (option_map W.contents result.1) }
-{
-    match request {
-        Request::Replay => text(run_replay(alloc, reader, out)),
-        Request::Explore(exploration) => runs(
-            run_explore(rt, alloc, exploration, reader, out, faults),
-            Missed::Ends,
-        ),
-        Request::Summarize(survey) => runs(
-            run_summarize(rt, alloc, survey, reader, out, faults),
-            Missed::Ends,
-        ),
-        Request::Check => text(run_check(alloc, reader, out)),
-        Request::Explain(view) => text(run_explain(alloc, &view, reader, out)),
-        Request::ExplainJson(view) => text(run_explain_json(alloc, &view, reader, out)),
-        Request::Draw => text(run_draw(alloc, reader, out)),
-        Request::Page => text(run_page(alloc, reader, out)),
-        Request::Schedule(scheduling) => text(run_schedule(alloc, scheduling, reader, out, faults)),
-        Request::Find(search) => runs(
-            run_find(rt, alloc, &search, reader, out, faults),
-            Missed::Runs(search.hunt.limit),
-        ),
-        Request::Minimize(conditions) => runs(
-            run_minimize(alloc, conditions.as_slice(), reader, out),
-            Missed::Trace,
-        ),
-        Request::Format => {
-            let (formatted, out) = run_format(alloc, reader, out);
-            (stop_of_format(formatted), out)
-        }
-        Request::Step => text(run_step(rt, alloc, reader, out)),
-        Request::Race(racing) => runs(
-            run_race(rt, alloc, racing, reader, out, faults),
-            Missed::Ends,
-        ),
-        Request::Work { name, driver } => {
-            let (worked, out) = run_work(rt, alloc, WorkWords { name, driver }, out);
-            (stop_of_work(worked), out)
-        }
-        Request::TraceWork { name, driver } => {
-            let (worked, out) = run_trace_work(alloc, WorkWords { name, driver }, out);
-            (stop_of_work(worked), out)
-        }
     }
 }
 

@@ -1,0 +1,147 @@
+//! What is answered to each request: by the commands' own crates, a function for each kind.
+ghost use Rattle.std.specs.Prelude.{◌≡◌};
+ghost use Rattle.std.specs.Option.{option_map};
+ghost use Rattle.hp_program.specs.Answers.{status_of_runs, status_of_text};
+ghost use Rattle.hugepool.specs.Requests.{Ends, EndsPool, EndsScript, EndsTrace};
+ghost use Rattle.hugepool.specs.Status.{status_at};
+
+use crate::stop::{Missed, Stop, stop_of_format, stop_of_runs, stop_of_text, stop_of_work};
+use hp_command::{PoolRequest, Request, ScriptRequest, TraceRequest};
+use hp_pool_commands::{WorkWords, run_step, run_trace_work, run_work};
+use hp_program::run_replay;
+use hp_script_commands::{
+    Report, run_explore, run_find, run_minimize, run_race, run_schedule, run_summarize,
+};
+use hp_text::{ReplayFault, Source};
+use hp_trace_commands::{run_check, run_draw, run_explain, run_explain_json, run_format, run_page};
+use std::alloc::Global;
+use std::io::Write;
+use std::rt::Files;
+use std::sync::Wait;
+use std::thread::Threads;
+use std::time::Clock;
+
+// What a command that writes a text answers, and its output.
+fn text<W>(ran: (Result<(), ReplayFault>, Option<W>)) -> (Result<(), Stop>, Option<W>)
+    ensures stop { status_at result.0 ≡ status_of_text ran.0 }
+    ensures out { result.1 ≡ ran.1 }
+{
+    (stop_of_text(ran.0), ran.1)
+}
+
+// What a command answers that says whether something is so, and its output.
+fn runs<W>(
+    ran: (Result<bool, ReplayFault>, Option<W>),
+    missed: Missed,
+) -> (Result<(), Stop>, Option<W>)
+    ensures stop { status_at result.0 ≡ status_of_runs ran.0 }
+    ensures out { result.1 ≡ ran.1 }
+{
+    (stop_of_runs(ran.0, missed), ran.1)
+}
+
+// What is answered to a request for something to be done with a trace.
+fn answer_trace<R: Source, W: Write + Drop>(
+    alloc: Global,
+    request: TraceRequest,
+    reader: &mut R,
+    out: W,
+) -> (Result<(), Stop>, Option<W>)
+    ensures { EndsTrace request (status_at result.0) (R.remaining reader.old) (R.remaining reader.new) (R.failures reader.old)
+        (R.failures reader.new) (W.contents out) (option_map W.contents result.1) }
+{
+    match request {
+        TraceRequest::Replay => text(run_replay(alloc, reader, out)),
+        TraceRequest::Check => text(run_check(alloc, reader, out)),
+        TraceRequest::Explain(view) => text(run_explain(alloc, &view, reader, out)),
+        TraceRequest::ExplainJson(view) => text(run_explain_json(alloc, &view, reader, out)),
+        TraceRequest::Draw => text(run_draw(alloc, reader, out)),
+        TraceRequest::Page => text(run_page(alloc, reader, out)),
+        TraceRequest::Format => {
+            let (formatted, out) = run_format(alloc, reader, out);
+            (stop_of_format(formatted), out)
+        }
+    }
+}
+
+// What is answered to a request for something to be done with a script, or with a trace that a run of one left.
+fn answer_script<H: Clock + Threads + Wait + Sync, R: Source, W: Write + Drop>(
+    rt: &H,
+    alloc: Global,
+    request: ScriptRequest,
+    reader: &mut R,
+    out: W,
+    faults: &mut impl Report,
+) -> (Result<(), Stop>, Option<W>)
+    ensures { EndsScript request (status_at result.0) (R.remaining reader.old) (R.remaining reader.new) (R.failures reader.old)
+        (R.failures reader.new) (W.contents out) (option_map W.contents result.1) }
+{
+    match request {
+        ScriptRequest::Explore(exploration) => runs(
+            run_explore(rt, alloc, exploration, reader, out, faults),
+            Missed::Ends,
+        ),
+        ScriptRequest::Summarize(survey) => runs(
+            run_summarize(rt, alloc, survey, reader, out, faults),
+            Missed::Ends,
+        ),
+        ScriptRequest::Schedule(scheduling) => {
+            text(run_schedule(alloc, scheduling, reader, out, faults))
+        }
+        ScriptRequest::Find(search) => runs(
+            run_find(rt, alloc, &search, reader, out, faults),
+            Missed::Runs(search.hunt.limit),
+        ),
+        ScriptRequest::Minimize(conditions) => runs(
+            run_minimize(alloc, conditions.as_slice(), reader, out),
+            Missed::Trace,
+        ),
+        ScriptRequest::Race(racing) => runs(
+            run_race(rt, alloc, racing, reader, out, faults),
+            Missed::Ends,
+        ),
+    }
+}
+
+// What is answered to a request for something to be done with a pool that runs.
+fn answer_pool<H: Clock + Files + Threads + Wait + Sync, R: Source, W: Write + Drop>(
+    rt: &H,
+    alloc: Global,
+    request: PoolRequest,
+    reader: &mut R,
+    out: W,
+) -> (Result<(), Stop>, Option<W>)
+    ensures { EndsPool request (status_at result.0) (R.remaining reader.old) (R.remaining reader.new) (R.failures reader.old)
+        (R.failures reader.new) (W.contents out) (option_map W.contents result.1) }
+{
+    match request {
+        PoolRequest::Step => text(run_step(rt, alloc, reader, out)),
+        PoolRequest::Work { name, driver } => {
+            let (worked, out) = run_work(rt, alloc, WorkWords { name, driver }, out);
+            (stop_of_work(worked), out)
+        }
+        PoolRequest::TraceWork { name, driver } => {
+            let (worked, out) = run_trace_work(alloc, WorkWords { name, driver }, out);
+            (stop_of_work(worked), out)
+        }
+    }
+}
+
+/// What is answered to a request, and the output, unless it went with a buffer for which there was no memory.
+pub(crate) fn answer<H: Clock + Files + Threads + Wait + Sync, R: Source, W: Write + Drop>(
+    rt: &H,
+    alloc: Global,
+    request: Request,
+    reader: &mut R,
+    out: W,
+    faults: &mut impl Report,
+) -> (Result<(), Stop>, Option<W>)
+    ensures { Ends request (status_at result.0) (R.remaining reader.old) (R.remaining reader.new) (R.failures reader.old)
+        (R.failures reader.new) (W.contents out) (option_map W.contents result.1) }
+{
+    match request {
+        Request::Trace(request) => answer_trace(alloc, request, reader, out),
+        Request::Script(request) => answer_script(rt, alloc, request, reader, out, faults),
+        Request::Pool(request) => answer_pool(rt, alloc, request, reader, out),
+    }
+}
