@@ -27,7 +27,7 @@ LEAST_LEFT, BELIEVED = 0.15, 0.2
 # so many seconds of proofs that went as is known are put beside those of this build
 EXPECTED = 120.0
 FUNCTIONS = re.compile(r"^so far: (\d+) of (\d+) functions", re.M)
-BEGUN_WITH_KEPT = ": begins with what a check kept in "
+IS_PROVED, BEGUN_WITH_KEPT = ": proved", ": begins with what a check kept in "
 PAUSE = 0.25
 
 
@@ -137,7 +137,7 @@ def is_from_nothing(logs: Path, name: str) -> bool:
     """Whether a proof began with nothing that was kept, so that what it took is what a first one takes."""
     log = logs / f"{name}.log"
     said = log.read_text(encoding="utf-8", errors="replace") if log.is_file() else BEGUN_WITH_KEPT
-    return bool(FUNCTIONS.search(said)) and BEGUN_WITH_KEPT not in said
+    return IS_PROVED in said and BEGUN_WITH_KEPT not in said
 
 
 class Proving:
