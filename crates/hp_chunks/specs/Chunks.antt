@@ -1,5 +1,5 @@
 -- Frames as they are kept: chunks of places.
-use Rattle.std.specs.Prelude.{◌≡◌, ℕ, zero, suc, ◌+◌, ◌*◌, ◌/◌, ◌%◌, ◌<◌, List, Option, None, Some, is_some, ⊤}
+use Rattle.std.specs.Prelude.{◌≡◌, ℕ, zero, suc, ◌*◌, ◌/◌, ◌%◌, ◌<◌, List, Option, None, Some, is_some, ⊤}
 use Rattle.std.specs.Prelude.{slice_index_or, length, map, count_by, ◌==◌, [], ◌∷◌}
 use Rattle.std.specs.Bool.{then_some}
 use Rattle.std.specs.Global.{Box}

@@ -8,11 +8,11 @@ use Rattle.hp_base.specs.declared.event.Op.{Op}
 use Rattle.hp_core.specs.Runs.{IsOpening}
 use Rattle.hp_core.specs.State.{CoreState}
 use Rattle.hp_shared.specs.Journal.{IsCameTo}
-use Rattle.hp_shared.specs.States.{tally_of as pool_tally}
+use Rattle.hp_shared.specs.States.{tally_of}
 use Rattle.hp_client.specs.Carrying.{CrewState, IsNewCrew, core_rounds, core_stops, crew_rounds, crew_stops}
 use Rattle.hp_client.specs.Carrying.{RunOverCore, RunOverPool, StoppedOverCore, StoppedOverPool}
 use Rattle.hp_client.specs.Driving.{Rounds, Stops}
-use Rattle.hp_client.specs.Heard.{DriverState, tally_of}
+use Rattle.hp_client.specs.Heard.{DriverState}
 use Rattle.hp_client.specs.Tables.{table_of, sizes_of, FrontRuns, IsReport}
 use Rattle.hp_client.specs.declared.fault.ClientFault.{ClientFault}
 use Rattle.hp_client.specs.declared.fault.ClientFault.TheVariants.{Memory}
@@ -53,7 +53,7 @@ module _ {D : Type 0} (old new : D) (seen : D → CrewState) (makes : Rounds D)
     → crew_rounds (seen old) calls answers (seen new)) (workload : Workload) (is_new : IsNewCrew workload (seen old)) where
   pub over_pool : (result : Result Report ClientFault)
       → IfOk result (λ report. IsReport makes (table_of workload).lines (table_of workload).tally old new report)
-      → IfOk result (λ report. (core : CoreState) × IsCameTo core × (report.tally ≡ pool_tally core))
+      → IfOk result (λ report. (core : CoreState) × IsCameTo core × (report.tally ≡ tally_of core))
       → IfOk result (λ report. RunOverPool workload report)
   over_pool (Ok report) is tally = record {
     old = seen old;

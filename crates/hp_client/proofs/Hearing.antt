@@ -1,8 +1,7 @@
 -- What was heard, call by call.
 use Rattle.std.proofs.Common.{◌≡◌, ℕ, ◌+◌, ◌<◌, ◌≤◌, List, [], ◌∷◌, ◌++◌, length, take, get_or, refl, sym, ap, ◌∙◌, arith}
 use Rattle.std.proofs.Common.{append_assoc}
-use Rattle.std.proofs.lemmas.Grind.{common_steps}
-use Rattle.std.proofs.lemmas.List.{take_more, take_all}
+use Rattle.std.proofs.lemmas.List.{take_more, take_all, length-take-le}
 use Rattle.hp_base.specs.declared.answer.Answer.{Answer}
 use Rattle.hp_base.specs.declared.event.Op.{Op}
 use Rattle.hp_client.specs.Heard.{heard_of}
@@ -15,9 +14,6 @@ heard_more (c ∷ calls) [] call answer long = absurd (omega (arith, long))
 heard_more (c ∷ calls) (b ∷ answers) call answer long = ap (λ (xs : List (ℕ × Op
     × Answer)). (c.0, c.1, b) ∷ xs) (heard_more calls answers call answer (omega (arith, long)))
 
-taken : {A : Type 0} (xs : List A) (i : ℕ) → i ≤ length xs → length (take i xs) ≡ i
-taken xs i l = grind (arith, common_steps)
-
 -- one more call was heard
 pub heard_next : (i : ℕ) (calls : List (ℕ × Op)) (answers : List Answer) (call : ℕ
     × Op) (answer : Answer) (start heard more : List (ℕ × Op × Answer)) → i < length calls → length answers ≡ length calls
@@ -29,8 +25,8 @@ heard_next i calls answers call answer start heard more within long is_call is_a
     ∙ ap (λ (x : ℕ × Op). take i calls ++ x ∷ []) (sym is_call) in
     let a : take (i + 1) answers ≡ take i answers ++ answer ∷ [] = take_more answers i answer (omega (arith, long, within))
     ∙ ap (λ (x : Answer). take i answers ++ x ∷ []) (sym is_answer) in
-    let n : length (take i answers) ≡ length (take i calls) = taken answers i (omega (arith, long, within))
-    ∙ sym (taken calls i (omega (arith, within))) in
+    let n : length (take i answers) ≡ length (take i calls) = length-take-le i answers (omega (arith, long, within))
+    ∙ sym (length-take-le i calls (omega (arith, within))) in
     longer ∙ ap (λ (xs : List (ℕ × Op × Answer)). xs ++ (call.0, call.1, answer) ∷ []) before
     ∙ append_assoc start (heard_of (take i calls) (take i answers)) ((call.0, call.1, answer) ∷ [])
     ∙ ap (λ (xs : List (ℕ × Op × Answer)). start ++ xs) (sym (heard_more (take i calls) (take i answers) call answer n))

@@ -2,7 +2,7 @@
 use Rattle.std.proofs.Common.{◌≡◌, ℕ, ◌+◌, ◌<◌, ◌≤◌, Bool, List, [], ◌∷◌, ◌++◌, length, take, drop, get_or, set, inl, inr}
 use Rattle.std.proofs.Common.{refl, sym, ap, subst, ◌∙◌, arith, add-zero, add-one, Some, true}
 use Rattle.std.proofs.lemmas.Grind.{common_steps}
-use Rattle.std.proofs.lemmas.List.{get_or-drop, drop-drop, drop-set-lt, take-append-drop, take_more, take_more_set, take_all}
+use Rattle.std.proofs.lemmas.List.{get_or-drop, drop-drop, drop-set-lt, take-append-drop, take_more, take_more_set, take_all, length-take-le}
 use Rattle.hp_base.specs.Numbers.{bit}
 use Rattle.hp_base.specs.declared.answer.Answer.{Answer}
 use Rattle.hp_base.specs.declared.event.Op.{Op}
@@ -202,12 +202,9 @@ ended_long [] (b ∷ answers) ended = absurd ended
 ended_long (first ∷ asked) [] ended = absurd ended
 ended_long (first ∷ asked) (b ∷ answers) ended = let more = ended_long asked answers ended.1 in omega (arith, more)
 
-taken : {A : Type 0} (xs : List A) (i : ℕ) → i ≤ length xs → length (take i xs) ≡ i
-taken xs i l = grind (arith, common_steps)
-
 pub told_long : (i : ℕ) (asked : List Asked) (answers : List Answer) → i < length asked → AreEnded (take i asked) answers
     → length answers ≡ i
-told_long i asked answers within ended = ended_long (take i asked) answers ended ∙ taken asked i (omega (arith, within))
+told_long i asked answers within ended = ended_long (take i asked) answers ended ∙ length-take-le i asked (omega (arith, within))
 
 -- a turn in which a step went on, and then one
 pub near_on : (went more : Bool) (old mid new b : ℕ) → more ≡ true → went ≡ true → mid + b ≤ old → new + bit went ≤ mid

@@ -7,10 +7,10 @@ use Rattle.hp_base.specs.declared.event.Op.{Op}
 use Rattle.hp_core.specs.Runs.{IsOpening}
 use Rattle.hp_core.specs.State.{CoreState}
 use Rattle.hp_shared.specs.Journal.{IsCameTo}
-use Rattle.hp_shared.specs.States.{tally_of as pool_tally}
+use Rattle.hp_shared.specs.States.{tally_of}
 use Rattle.hp_client.specs.Crew.{MemberState, members_of, new_seats}
 use Rattle.hp_client.specs.Driving.{Rounds, Stops, IsHeard, IsUnheard}
-use Rattle.hp_client.specs.Heard.{DriverState, tally_of}
+use Rattle.hp_client.specs.Heard.{DriverState}
 use Rattle.hp_client.specs.PoolRounds.{PoolRound, PoolRoundStops}
 use Rattle.hp_client.specs.Rounds.{Round, RoundStops}
 use Rattle.hp_client.specs.Tables.{table_of, sizes_of, FrontRuns, IsReport}
@@ -60,7 +60,7 @@ pub record RunOverPool (workload : Workload) (report : Report) : Type 0 where
   pub new : CrewState
   pub is_new : IsNewCrew workload old
   pub is : IsReport crew_rounds (table_of workload).lines (table_of workload).tally old new report
-  pub tally : (core : CoreState) × IsCameTo core × (report.tally ≡ pool_tally core)
+  pub tally : (core : CoreState) × IsCameTo core × (report.tally ≡ tally_of core)
 
 -- the workload's lines ran over a new driver of a core up to one that stopped with this fault
 pub record StoppedOverCore (workload : Workload) (fault : ClientFault) : Type 0 where

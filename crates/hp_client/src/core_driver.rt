@@ -2,7 +2,8 @@
 ghost use Rattle.std.specs.Prelude.{◌≡◌, ◌≢◌, ◌++◌, [], IfOk, OnOk, IfErr, OnErr, length};
 ghost use Rattle.hp_core.specs.Readers.{calls_of};
 ghost use Rattle.hp_core.specs.Runs.{IsOpening};
-ghost use Rattle.hp_client.specs.Heard.{DriverState, heard_of, AreApart, tally_of};
+ghost use Rattle.hp_shared.specs.States.{tally_of};
+ghost use Rattle.hp_client.specs.Heard.{DriverState, heard_of, AreApart};
 ghost use Rattle.hp_client.specs.Rounds.{Ends, Round, RoundStops, FinishStops, in_flight};
 ghost use Rattle.hp_client.specs.declared.fault.ClientFault.TheVariants.{Stuck};
 

@@ -21,6 +21,7 @@ pub use core_driver::CoreDriver;
 pub use crew::{Crew, Team, Work};
 pub use driver::Driver;
 pub use fault::ClientFault;
+pub use heard::note_calls;
 pub use pool_driver::PoolDriver;
 pub use table::Workload;
 pub use work::{Report, config_of, run_workload, workload_named};

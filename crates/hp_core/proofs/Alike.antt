@@ -9,7 +9,8 @@ use Rattle.hp_base.specs.declared.event.Event.{Event}
 use Rattle.hp_machine.specs.State.{Geometry, State}
 use Rattle.hp_machine.specs.Events as rows
 use Rattle.hp_machine.specs.declared.outcome.Outcome.{Outcome}
-use Rattle.hp_sequential.specs.Renaming.{Alike, events_of}
+use Rattle.hp_laws.specs.Histories.{events_of}
+use Rattle.hp_sequential.specs.Renaming.{Alike}
 use Rattle.hp_core.specs.State.{as_state}
 use Rattle.hp_core.specs.Runs.{Run, IsOpening, geometry}
 use Rattle.hp_core.specs.RunLaws.{FramesDontShow}

@@ -8,7 +8,8 @@ use Rattle.hp_laws.specs.Laws.{CallersLive}
 use Rattle.hp_core.specs.Readers as readers
 use Rattle.hp_core.specs.State.{CoreState, as_state}
 
-some_of : (o : Option Call) → IsSome o → (c : Call) × (o ≡ Some c)
+-- the call that is there
+pub some_of : (o : Option Call) → IsSome o → (c : Call) × (o ≡ Some c)
 some_of None there = (let no : ◌≡◌ {A = Bool} false true = there in absurd (cc))
 some_of (Some c) there = (c, refl)
 

@@ -5,7 +5,7 @@ use Rattle.std.specs.Prelude.{true, ◌==◌}
 use Rattle.std.proofs.lemmas.Bool.Decides.{nat_tests}
 use Rattle.std.proofs.lemmas.List.Elements.{at_read}
 use Rattle.std.proofs.lemmas.Grind.{common_steps}
-use Rattle.std.proofs.lemmas.List.{take_more, take_all}
+use Rattle.std.proofs.lemmas.List.{take_more, take_all, length-take-le}
 use Rattle.hp_base.specs.declared.event.Event.{Event}
 use Rattle.hp_machine.specs.Events as rows
 use Rattle.hp_machine.specs.declared.outcome.Outcome.{Outcome}
@@ -61,13 +61,9 @@ ran_next s mid new es i os more e o within is longer run row =
     (sym (take_more es i e within ∙ ap (λ (x : Event). take i es ++ x ∷ []) (sym is)))
     (run_more s mid new (take i es) os e o run row))
 
--- the first i of a list are i, where it has as many
-taken : {A : Type 0} (xs : List A) (i : ℕ) → i ≤ length xs → length (take i xs) ≡ i
-taken xs i l = grind (arith, common_steps)
-
 -- after i events of the loop i outcomes are told
 pub told_long : (s new : CoreState) (es : List Event) (i : ℕ) (os : List Outcome) → i ≤ length es → Run s (take i es) os new → length os ≡ i
-told_long s new es i os within run = run_long s new (take i es) os run ∙ taken es i within
+told_long s new es i os within run = run_long s new (take i es) os run ∙ length-take-le i es within
 
 -- at the end of the loop all events happened
 pub ran_all : (s new : CoreState) (es : List Event) (i : ℕ) (os : List Outcome) → length es ≤ i → Run s (take i es) os new → Run s es os new

@@ -2,7 +2,7 @@
 ghost use Rattle.std.specs.Prelude.{◌≡◌, true, None, IfOk, IfSome, IsSome, OnErr, length, vec_capacity};
 ghost use Rattle.hp_machine.specs.Events as rows;
 ghost use Rattle.hp_parts.specs.State.{state_of, SizesStay};
-ghost use Rattle.hp_parts.specs.Capacity.{CapacityStays, CapacityStaysUnless};
+ghost use Rattle.hp_parts.specs.Capacity.{CapacityStays, MemoryStaysUnless};
 ghost use Rattle.hp_core.specs.Fits.{EventFits, StepFits};
 ghost use Rattle.hp_core.specs.Refusals.{refusal_of};
 ghost use Rattle.hp_core.specs.TaskStates.{HasTaskState, with_call, with_kill};
@@ -114,9 +114,7 @@ fn step_task(
         StepTaskStates (state_of parts.old) task_states.old.items task grant outcome (state_of parts.new) task_states.new.items) }
     ensures blocked { IfOk result (λ outcome. IfOutcomeBlocked outcome
         (BlockedStays (state_of parts.old) task_states.old.items (Step task grant) (state_of parts.new) task_states.new.items)) }
-    ensures sizes { SizesStay (state_of parts.old) (state_of parts.new) }
-    ensures capacity { CapacityStaysUnless grant (StepWants (state_of parts.old) task_states.old.items task)
-        (state_of parts.old) (state_of parts.new) }
+    ensures memory { MemoryStaysUnless grant (StepWants (state_of parts.old) task_states.old.items task) parts.old parts.new }
     ensures task_states { length task_states.new.items ≡ length task_states.old.items }
     ensures list { vec_capacity task_states.new ≡ vec_capacity task_states.old }
     ensures err { OnErr result ((state_of parts.new ≡ state_of parts.old) × (task_states.new.items ≡ task_states.old.items)) }

@@ -34,6 +34,7 @@ pub use hp_audit::{FilePicture, Finding, Picture, audit};
 pub use hp_base::Answer;
 pub use hp_machine::{Life, Outcome, Phase, Refusal};
 pub use readers::Tally;
+pub use refusing::is_exit;
 pub use run::RunFault;
 pub use task_state::TaskState;
 pub use waiting::Readiness;

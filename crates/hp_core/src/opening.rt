@@ -5,7 +5,7 @@ ghost use Rattle.hp_core.specs.State.{CoreState};
 ghost use Rattle.hp_parts.specs.View.{no_table};
 
 use crate::task_state::TaskState;
-use hp_cache::PageCache;
+use hp_chunks::PageCache;
 use hp_machine::Life;
 use hp_parts::FileState;
 use hp_region::RegionMap;

@@ -25,8 +25,8 @@ fn task_state_of(task_states: &[TaskState], task: Task) -> Option<&TaskState>
     task_states.get(task.place())
 }
 
-// Whether the operation is the end of its task.
-fn is_exit(op: &Op) -> bool
+/// Whether the operation is the end of its task.
+pub fn is_exit(op: &Op) -> bool
     ensures { result ≡ is_exit op.now }
 {
     matches!(op, Op::Exit)

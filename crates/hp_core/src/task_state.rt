@@ -5,8 +5,8 @@ ghost use Rattle.hp_base.specs.Numbers.{is_none};
 ghost use Rattle.hp_machine.specs.Events.{CallRow};
 ghost use Rattle.hp_machine.specs.State as machine;
 ghost use Rattle.hp_machine.specs.Wants.{Wants};
-ghost use Rattle.hp_parts.specs.State.{state_of, SizesStay};
-ghost use Rattle.hp_parts.specs.Capacity.{CapacityStaysUnless};
+ghost use Rattle.hp_parts.specs.State.{state_of};
+ghost use Rattle.hp_parts.specs.Capacity.{MemoryStaysUnless};
 ghost use Rattle.hp_parts.specs.View.{view};
 ghost use Rattle.hp_core.specs.Fits.{CallFits};
 ghost use Rattle.hp_machine.specs.Standings.{standing};
@@ -98,9 +98,8 @@ pub fn step_call(
     ensures blocked { IfOk result (λ outcome. IfOutcomeBlocked outcome (IfSome task_state.old.call
         (λ call. IfWanting (standing call).wants ((state_of parts.new ≡ state_of parts.old) × (task_state.new ≡ task_state.old))))) }
     ensures life { IfSome task_state.old.call (λ call. task_state.new.life ≡ life_after task_state.old.life call task_state.new.call) }
-    ensures sizes { SizesStay (state_of parts.old) (state_of parts.new) }
-    ensures capacity { CapacityStaysUnless grant (IsSomeAnd task_state.old.call (λ call. Wants (view parts.old) task call))
-        (state_of parts.old) (state_of parts.new) }
+    ensures memory { MemoryStaysUnless grant (IsSomeAnd task_state.old.call (λ call. Wants (view parts.old) task call))
+        parts.old parts.new }
     ensures err { OnErr result ((state_of parts.new ≡ state_of parts.old) × (task_state.new ≡ task_state.old)) }
     ensures growth { OnErr result (grant ≡ true) }
     ensures wanted { OnErr result (IsSomeAnd task_state.old.call (λ call. Wants (view parts.old) task call)) }

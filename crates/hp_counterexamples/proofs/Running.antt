@@ -15,7 +15,8 @@ use Rattle.hp_machine.specs.Events.{KillRow, RowBy, RunBy}
 use Rattle.hp_machine.specs.Events.{is_exit}
 use Rattle.hp_machine.specs.declared.outcome.Outcome.{Outcome}
 use Rattle.hp_machine.specs.declared.call.Call.{Call}
-use Rattle.hp_counterexamples.specs.Runs.{as_it_is, events_of, with_calls, with_resizes}
+use Rattle.hp_laws.specs.Histories.{events_of}
+use Rattle.hp_counterexamples.specs.Runs.{as_it_is, with_calls, with_resizes}
 use Rattle.hp_counterexamples.proofs.Searching.{Clear, bind}
 use Rattle.hp_counterexamples.proofs.Steps.{Made, try_call}
 use Rattle.hp_counterexamples.proofs.Resizing.{TriesResizes, try_resize}

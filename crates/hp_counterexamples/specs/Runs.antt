@@ -1,5 +1,5 @@
 -- A machine with other rows, and what it is for a list of events to break a law on it.
-use Rattle.std.specs.Prelude.{◌≡◌, ℕ, zero, suc, ◌≤◌, true, false, Some, None, List, [], ◌∷◌}
+use Rattle.std.specs.Prelude.{◌≡◌, ℕ, zero, suc, ◌≤◌, true, false, Some, None, List, ◌∷◌}
 use Rattle.hp_base.specs.Indices.{touches}
 use Rattle.hp_base.specs.declared.event.Op.{Op}
 use Rattle.hp_base.specs.declared.event.Event.{Event}
@@ -13,6 +13,7 @@ use Rattle.hp_machine.specs.Headline.{Headline, OnePlace, vacant_in, reserved_in
 use Rattle.hp_machine.specs.Standings.{Counts, standing_of}
 use Rattle.hp_machine.specs.Views.{hand}
 use Rattle.hp_machine.specs.declared.outcome.Outcome.{Outcome}
+use Rattle.hp_laws.specs.Histories.{events_of}
 use Rattle.hp_laws.specs.Protocol.{ChangesAreCalls, SparesSuffice}
 
 -- the machine with each row as it is. Edits claim of it what is proved of the others, and are refused
@@ -47,10 +48,6 @@ deny t rest = Step t false ∷ rest
 -- a call is begun and makes so many steps, and then the rest
 abbrev pub calls : (task : ℕ) → Op → (times : ℕ) → List Event → List Event
 calls t p n rest = Begin t p ∷ steps t n rest
-
-abbrev pub events_of : List (Event × Outcome) → List Event
-events_of [] = []
-events_of (e ∷ es) = e.0 ∷ events_of es
 
 -- by these rows the events lead from the opening state to one of which that is so
 abbrev pub Leads : EventRows → Geometry → (frames : ℕ) → List Event → (State → Type 0) → Type 0

@@ -9,8 +9,8 @@ ghost use Rattle.hp_machine.specs.Standings.{standing};
 ghost use Rattle.hp_machine.specs.declared.call.Call.TheVariants as call;
 ghost use Rattle.hp_parts.specs.Turns.{IfBlocked, IfWanting};
 ghost use Rattle.hp_parts.specs.View.{view};
-ghost use Rattle.hp_parts.specs.State.{state_of, IsSized, SizesStay};
-ghost use Rattle.hp_parts.specs.Capacity.{CapacityStays, CapacityStaysUnless};
+ghost use Rattle.hp_parts.specs.State.{state_of, IsSized};
+ghost use Rattle.hp_parts.specs.Capacity.{MemoryStays, MemoryStaysUnless};
 ghost use Rattle.hp_fault.specs.Fits.{AllocFits};
 ghost use Rattle.hp_parts.specs.Fits.{IsFileOf, IsHeld};
 
@@ -36,8 +36,7 @@ pub fn step_alloc(
     requires sized { IsSized (state_of parts.old) }
     requires fits { AllocFits (view parts.old) task phase }
     ensures row { IfOk result (λ turn. AllocRow (view parts.old) task killed grant phase turn (view parts.new)) }
-    ensures sizes { SizesStay (state_of parts.old) (state_of parts.new) }
-    ensures capacity { CapacityStaysUnless grant (alloc_wants (view parts.old) phase) (state_of parts.old) (state_of parts.new) }
+    ensures memory { MemoryStaysUnless grant (alloc_wants (view parts.old) phase) parts.old parts.new }
     ensures blocked { IfOk result (λ turn. IfWanting (standing (call.Alloc phase)).wants
         (IfBlocked turn (λ again. (again ≡ phase) × (state_of parts.new ≡ state_of parts.old)))) }
     ensures phase { IfErr result (λ stopped. stopped.phase ≡ phase) }
@@ -73,8 +72,7 @@ pub fn step_alloc(
 fn from_start(parts: &mut Parts, task: Task, killed: bool, phase: Start) -> Turn<AllocPhase>
     requires { IsSized (state_of parts.old) }
     ensures row { AllocStartRow (view parts.old) task killed phase result (view parts.new) }
-    ensures sizes { SizesStay (state_of parts.old) (state_of parts.new) }
-    ensures capacity { CapacityStays (state_of parts.old) (state_of parts.new) }
+    ensures memory { MemoryStays parts.old parts.new }
     ensures same { IfBlocked result (λ again. (again ≡ AllocPhase.Start phase) × (state_of parts.new ≡ state_of parts.old)) }
 {
     let allocation = phase.allocation;
@@ -105,8 +103,7 @@ fn from_head(killed: bool, phase: Head) -> Turn<AllocPhase>
 #[tactic(auto, using(hp_parts::proofs::Carrying::carry_want, hp_parts::proofs::Carrying::carry_blocked))]
 fn from_want(parts: &mut Parts, task: Task, killed: bool, phase: Want) -> Turn<AllocPhase>
     ensures row { AllocWantRow (view parts.old) task killed phase result (view parts.new) }
-    ensures sizes { SizesStay (state_of parts.old) (state_of parts.new) }
-    ensures capacity { CapacityStays (state_of parts.old) (state_of parts.new) }
+    ensures memory { MemoryStays parts.old parts.new }
     ensures same { IfBlocked result (λ again. (again ≡ AllocPhase.Want phase) × (state_of parts.new ≡ state_of parts.old)) }
 {
     let (allocation, index) = (phase.allocation, phase.index);
@@ -122,8 +119,7 @@ fn from_want(parts: &mut Parts, task: Task, killed: bool, phase: Want) -> Turn<A
 fn from_locked(parts: &mut Parts, phase: Locked) -> Turn<AllocPhase>
     requires { IsFileOf (view parts.old) phase.allocation.file }
     ensures row { AllocLockedRow (view parts.old) phase result (view parts.new) }
-    ensures sizes { SizesStay (state_of parts.old) (state_of parts.new) }
-    ensures capacity { CapacityStays (state_of parts.old) (state_of parts.new) }
+    ensures memory { MemoryStays parts.old parts.new }
 {
     let Locked { allocation, index } = phase;
     let file = &parts.files[allocation.file.number() as usize];
@@ -138,9 +134,8 @@ fn from_missing(parts: &mut Parts, grant: bool, phase: Missing) -> Result<Turn<A
     requires file { IsFileOf (view parts.old) phase.allocation.file }
     requires in_limit { phase.index < LIMIT }
     ensures row { IfOk result (λ turn. AllocMissingRow (view parts.old) grant phase turn (view parts.new)) }
-    ensures sizes { SizesStay (state_of parts.old) (state_of parts.new) }
-    ensures capacity { CapacityStaysUnless grant ((view parts.old).spare phase.allocation.file ≡ (view parts.old).pending phase.allocation.file)
-        (state_of parts.old) (state_of parts.new) }
+    ensures memory { MemoryStaysUnless grant ((view parts.old).spare phase.allocation.file ≡ (view parts.old).pending phase.allocation.file)
+        parts.old parts.new }
     ensures phase { IfErr result (λ again. again ≡ phase) }
     ensures err { OnErr result (state_of parts.new ≡ state_of parts.old) }
     ensures growth { OnErr result (grant ≡ true) }
@@ -165,8 +160,7 @@ fn from_changed(parts: &mut Parts, killed: bool, phase: Changed) -> Turn<AllocPh
     requires reserved { phase.pending.missing ≡ 0 → 1 ≤ (view parts.old).resv }
     requires used { (view parts.old).used + 1 < 2 ^ 32 }
     ensures row { AllocChangedRow (view parts.old) killed phase result (view parts.new) }
-    ensures sizes { SizesStay (state_of parts.old) (state_of parts.new) }
-    ensures capacity { CapacityStays (state_of parts.old) (state_of parts.new) }
+    ensures memory { MemoryStays parts.old parts.new }
 {
     let Changed {
         allocation,
@@ -192,8 +186,7 @@ fn from_abort(parts: &mut Parts, phase: Abort) -> Turn<AllocPhase>
     requires file { IsFileOf (view parts.old) phase.allocation.file }
     requires pending { 1 ≤ (view parts.old).pending phase.allocation.file }
     ensures row { AllocAbortRow (view parts.old) phase result (view parts.new) }
-    ensures sizes { SizesStay (state_of parts.old) (state_of parts.new) }
-    ensures capacity { CapacityStays (state_of parts.old) (state_of parts.new) }
+    ensures memory { MemoryStays parts.old parts.new }
 {
     let Abort {
         allocation,
@@ -212,8 +205,7 @@ fn from_taken(parts: &mut Parts, phase: Taken) -> Turn<AllocPhase>
     requires file { IsFileOf (view parts.old) phase.allocation.file }
     requires pending { 1 ≤ (view parts.old).pending phase.allocation.file }
     ensures row { AllocTakenRow (view parts.old) phase result (view parts.new) }
-    ensures sizes { SizesStay (state_of parts.old) (state_of parts.new) }
-    ensures capacity { CapacityStays (state_of parts.old) (state_of parts.new) }
+    ensures memory { MemoryStays parts.old parts.new }
 {
     let Taken {
         allocation,
@@ -244,8 +236,7 @@ fn from_settle(parts: &mut Parts, phase: Settle) -> Turn<AllocPhase>
     requires resv { 1 ≤ (view parts.old).resv }
     requires used { 1 ≤ (view parts.old).used }
     ensures row { AllocSettleRow (view parts.old) phase result (view parts.new) }
-    ensures sizes { SizesStay (state_of parts.old) (state_of parts.new) }
-    ensures capacity { CapacityStays (state_of parts.old) (state_of parts.new) }
+    ensures memory { MemoryStays parts.old parts.new }
 {
     let Settle {
         allocation,
@@ -270,9 +261,7 @@ fn from_committed(
     requires bare { (view parts.old).pages phase.allocation.file phase.index ≡ None }
     requires held { IsHeld (view parts.old) phase.held }
     ensures row { IfOk result (λ turn. AllocCommittedRow (view parts.old) grant phase turn (view parts.new)) }
-    ensures sizes { SizesStay (state_of parts.old) (state_of parts.new) }
-    ensures capacity { CapacityStaysUnless grant (alloc_wants (view parts.old) (AllocPhase.Committed phase))
-        (state_of parts.old) (state_of parts.new) }
+    ensures memory { MemoryStaysUnless grant (alloc_wants (view parts.old) (AllocPhase.Committed phase)) parts.old parts.new }
     ensures phase { IfErr result (λ again. again ≡ phase) }
     ensures err { OnErr result (state_of parts.new ≡ state_of parts.old) }
     ensures growth { OnErr result (grant ≡ true) }
@@ -304,8 +293,7 @@ fn from_committed(
 fn from_restore(parts: &mut Parts, phase: Restore) -> Turn<AllocPhase>
     requires { IsHeld (view parts.old) phase.held }
     ensures row { AllocRestoreRow (view parts.old) phase result (view parts.new) }
-    ensures sizes { SizesStay (state_of parts.old) (state_of parts.new) }
-    ensures capacity { CapacityStays (state_of parts.old) (state_of parts.new) }
+    ensures memory { MemoryStays parts.old parts.new }
 {
     let Restore {
         allocation,
@@ -322,8 +310,7 @@ fn from_unslot(parts: &mut Parts, task: Task, phase: Unslot) -> Turn<AllocPhase>
     requires in_limit { phase.allocation.from + phase.allocation.len ≤ LIMIT }
     requires index { phase.index < LIMIT }
     ensures row { AllocUnslotRow (view parts.old) phase result (view parts.new) }
-    ensures sizes { SizesStay (state_of parts.old) (state_of parts.new) }
-    ensures capacity { CapacityStays (state_of parts.old) (state_of parts.new) }
+    ensures memory { MemoryStays parts.old parts.new }
 {
     let Unslot {
         allocation,
@@ -351,8 +338,7 @@ fn from_extend(parts: &mut Parts, phase: Extend) -> Turn<AllocPhase>
     requires file { IsFileOf (view parts.old) phase.allocation.file }
     requires in_limit { phase.allocation.from + phase.allocation.len ≤ LIMIT }
     ensures row { AllocExtendRow (view parts.old) phase result (view parts.new) }
-    ensures sizes { SizesStay (state_of parts.old) (state_of parts.new) }
-    ensures capacity { CapacityStays (state_of parts.old) (state_of parts.new) }
+    ensures memory { MemoryStays parts.old parts.new }
 {
     let Extend { allocation } = phase;
     let file = &mut parts.files[allocation.file.number() as usize];
@@ -363,8 +349,7 @@ fn from_extend(parts: &mut Parts, phase: Extend) -> Turn<AllocPhase>
 fn from_leave(parts: &mut Parts, task: Task, phase: Leave) -> Turn<AllocPhase>
     requires { (view parts.old).locks phase.allocation.file ≡ Some task }
     ensures row { AllocLeaveRow (view parts.old) phase result (view parts.new) }
-    ensures sizes { SizesStay (state_of parts.old) (state_of parts.new) }
-    ensures capacity { CapacityStays (state_of parts.old) (state_of parts.new) }
+    ensures memory { MemoryStays parts.old parts.new }
 {
     let Leave { allocation, answer } = phase;
     leave_lock(parts, task, allocation.file);

@@ -8,8 +8,8 @@ ghost use Rattle.hp_machine.specs.Standings.{standing};
 ghost use Rattle.hp_machine.specs.declared.call.Call.TheVariants as call;
 ghost use Rattle.hp_parts.specs.Turns.{IfBlocked, IfWanting};
 ghost use Rattle.hp_parts.specs.View.{view};
-ghost use Rattle.hp_parts.specs.State.{state_of, IsSized, SizesStay};
-ghost use Rattle.hp_parts.specs.Capacity.{CapacityStays, CapacityStaysUnless};
+ghost use Rattle.hp_parts.specs.State.{state_of, IsSized};
+ghost use Rattle.hp_parts.specs.Capacity.{MemoryStays, MemoryStaysUnless};
 ghost use Rattle.hp_fault.specs.Fits.{MapFits};
 ghost use Rattle.hp_parts.specs.Fits.{IsTaskOf, IsFileOf};
 
@@ -33,8 +33,7 @@ pub fn step_map(
     requires sized { IsSized (state_of parts.old) }
     requires fits { MapFits (view parts.old) task phase }
     ensures row { IfOk result (λ turn. MapRow (view parts.old) task killed grant phase turn (view parts.new)) }
-    ensures sizes { SizesStay (state_of parts.old) (state_of parts.new) }
-    ensures capacity { CapacityStaysUnless grant (map_wants (view parts.old) task phase) (state_of parts.old) (state_of parts.new) }
+    ensures memory { MemoryStaysUnless grant (map_wants (view parts.old) task phase) parts.old parts.new }
     ensures blocked { IfOk result (λ turn. IfWanting (standing (call.Map phase)).wants
         (IfBlocked turn (λ again. (again ≡ phase) × (state_of parts.new ≡ state_of parts.old)))) }
     ensures phase { IfErr result (λ stopped. stopped.phase ≡ phase) }
@@ -63,8 +62,7 @@ pub fn step_map(
 fn from_start(parts: &mut Parts, task: Task, killed: bool, phase: Start) -> Turn<MapPhase>
     requires { IsSized (state_of parts.old) }
     ensures row { MapStartRow (view parts.old) task killed phase result (view parts.new) }
-    ensures sizes { SizesStay (state_of parts.old) (state_of parts.new) }
-    ensures capacity { CapacityStays (state_of parts.old) (state_of parts.new) }
+    ensures memory { MemoryStays parts.old parts.new }
     ensures same { IfBlocked result (λ again. (again ≡ MapPhase.Start phase) × (state_of parts.new ≡ state_of parts.old)) }
 {
     let map = phase.map;
@@ -83,9 +81,7 @@ fn from_room(
 ) -> Result<Turn<MapPhase>, Room>
     requires { IsTaskOf (view parts.old) task }
     ensures row { IfOk result (λ turn. MapRoomRow (view parts.old) task grant phase turn (view parts.new)) }
-    ensures sizes { SizesStay (state_of parts.old) (state_of parts.new) }
-    ensures capacity { CapacityStaysUnless grant (map_wants (view parts.old) task (MapPhase.Room phase))
-        (state_of parts.old) (state_of parts.new) }
+    ensures memory { MemoryStaysUnless grant (map_wants (view parts.old) task (MapPhase.Room phase)) parts.old parts.new }
     ensures phase { IfErr result (λ again. again ≡ phase) }
     ensures err { OnErr result (state_of parts.new ≡ state_of parts.old) }
     ensures growth { OnErr result (grant ≡ true) }
@@ -115,9 +111,8 @@ fn from_missing(parts: &mut Parts, grant: bool, phase: Missing) -> Result<Turn<M
     requires some { 1 ≤ phase.map.len }
     requires in_limit { phase.map.from + phase.map.len ≤ LIMIT }
     ensures row { IfOk result (λ turn. MapMissingRow (view parts.old) grant phase turn (view parts.new)) }
-    ensures sizes { SizesStay (state_of parts.old) (state_of parts.new) }
-    ensures capacity { CapacityStaysUnless grant ((view parts.old).spare phase.map.file ≡ (view parts.old).pending phase.map.file)
-        (state_of parts.old) (state_of parts.new) }
+    ensures memory { MemoryStaysUnless grant ((view parts.old).spare phase.map.file ≡ (view parts.old).pending phase.map.file)
+        parts.old parts.new }
     ensures phase { IfErr result (λ again. again ≡ phase) }
     ensures err { OnErr result (state_of parts.new ≡ state_of parts.old) }
     ensures growth { OnErr result (grant ≡ true) }
@@ -137,8 +132,7 @@ fn from_missing(parts: &mut Parts, grant: bool, phase: Missing) -> Result<Turn<M
 fn from_changed(parts: &mut Parts, killed: bool, phase: Changed) -> Turn<MapPhase>
     requires used { (view parts.old).used + phase.pending.missing < 2 ^ 32 }
     ensures row { MapChangedRow (view parts.old) killed phase result (view parts.new) }
-    ensures sizes { SizesStay (state_of parts.old) (state_of parts.new) }
-    ensures capacity { CapacityStays (state_of parts.old) (state_of parts.new) }
+    ensures memory { MemoryStays parts.old parts.new }
 {
     let Changed { map, base, pending } = phase;
     if killed {
@@ -155,8 +149,7 @@ fn from_abort(parts: &mut Parts, phase: Abort) -> Turn<MapPhase>
     requires file { IsFileOf (view parts.old) phase.map.file }
     requires pending { 1 ≤ (view parts.old).pending phase.map.file }
     ensures row { MapAbortRow (view parts.old) phase result (view parts.new) }
-    ensures sizes { SizesStay (state_of parts.old) (state_of parts.new) }
-    ensures capacity { CapacityStays (state_of parts.old) (state_of parts.new) }
+    ensures memory { MemoryStays parts.old parts.new }
 {
     let Abort {
         map,
@@ -172,8 +165,7 @@ fn from_accounted(parts: &mut Parts, phase: Accounted) -> Turn<MapPhase>
     requires file { IsFileOf (view parts.old) phase.map.file }
     requires pending { 1 ≤ (view parts.old).pending phase.map.file }
     ensures row { MapAccountedRow (view parts.old) phase result (view parts.new) }
-    ensures sizes { SizesStay (state_of parts.old) (state_of parts.new) }
-    ensures capacity { CapacityStays (state_of parts.old) (state_of parts.new) }
+    ensures memory { MemoryStays parts.old parts.new }
 {
     let Accounted { map, base, pending } = phase;
     let missing = pending.missing();
@@ -190,8 +182,7 @@ fn from_settle(parts: &mut Parts, phase: Settle) -> Turn<MapPhase>
     requires resv { phase.excess ≤ (view parts.old).resv }
     requires used { phase.excess ≤ (view parts.old).used }
     ensures row { MapSettleRow (view parts.old) phase result (view parts.new) }
-    ensures sizes { SizesStay (state_of parts.old) (state_of parts.new) }
-    ensures capacity { CapacityStays (state_of parts.old) (state_of parts.new) }
+    ensures memory { MemoryStays parts.old parts.new }
 {
     let Settle { map, base, excess } = phase;
     parts.bank.settle(excess);
@@ -207,8 +198,7 @@ fn from_enter(parts: &mut Parts, task: Task, phase: Enter) -> Turn<MapPhase>
     requires ready { (view parts.old).ready task ≡ true }
     requires fits { fits VPNS ((view parts.old).mappings task) phase.base phase.map.len ≡ true }
     ensures row { MapEnterRow (view parts.old) task phase result (view parts.new) }
-    ensures sizes { SizesStay (state_of parts.old) (state_of parts.new) }
-    ensures capacity { CapacityStays (state_of parts.old) (state_of parts.new) }
+    ensures memory { MemoryStays parts.old parts.new }
 {
     let Enter { map, base } = phase;
     let space = &mut parts.spaces[task.place()];
@@ -221,8 +211,7 @@ fn from_enter(parts: &mut Parts, task: Task, phase: Enter) -> Turn<MapPhase>
 fn from_leave(parts: &mut Parts, task: Task, phase: Leave) -> Turn<MapPhase>
     requires { (view parts.old).locks phase.map.file ≡ Some task }
     ensures row { MapLeaveRow (view parts.old) phase result (view parts.new) }
-    ensures sizes { SizesStay (state_of parts.old) (state_of parts.new) }
-    ensures capacity { CapacityStays (state_of parts.old) (state_of parts.new) }
+    ensures memory { MemoryStays parts.old parts.new }
 {
     let Leave { map, answer } = phase;
     leave_lock(parts, task, map.file);

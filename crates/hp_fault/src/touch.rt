@@ -10,8 +10,8 @@ ghost use Rattle.hp_machine.specs.Standings.{standing};
 ghost use Rattle.hp_machine.specs.declared.call.Call.TheVariants as call;
 ghost use Rattle.hp_parts.specs.Turns.{IfBlocked, IfWanting};
 ghost use Rattle.hp_parts.specs.View.{view};
-ghost use Rattle.hp_parts.specs.State.{state_of, SizesStay};
-ghost use Rattle.hp_parts.specs.Capacity.{CapacityStays, CapacityStaysUnless};
+ghost use Rattle.hp_parts.specs.State.{state_of};
+ghost use Rattle.hp_parts.specs.Capacity.{MemoryStays, MemoryStaysUnless};
 ghost use Rattle.hp_fault.specs.Fits.{TouchFits};
 ghost use Rattle.hp_parts.specs.Fits.{IsTaskOf, IsFileOf, IsHeld, IsPage, HasPage};
 
@@ -37,8 +37,7 @@ pub fn step_touch(
 ) -> Result<Turn<TouchPhase>, Stopped<TouchPhase>>
     requires { TouchFits (view parts.old) task phase }
     ensures row { IfOk result (λ turn. TouchRow (view parts.old) task killed grant phase turn (view parts.new)) }
-    ensures sizes { SizesStay (state_of parts.old) (state_of parts.new) }
-    ensures capacity { CapacityStaysUnless grant (touch_wants (view parts.old) phase) (state_of parts.old) (state_of parts.new) }
+    ensures memory { MemoryStaysUnless grant (touch_wants (view parts.old) phase) parts.old parts.new }
     ensures blocked { IfOk result (λ turn. IfWanting (standing (call.Touch phase)).wants
         (IfBlocked turn (λ again. (again ≡ phase) × (state_of parts.new ≡ state_of parts.old)))) }
     ensures phase { IfErr result (λ stopped. stopped.phase ≡ phase) }
@@ -77,8 +76,7 @@ fn from_look(parts: &mut Parts, task: Task, phase: Look) -> Turn<TouchPhase>
     requires task { IsTaskOf (view parts.old) task }
     requires page { IfSome ((view parts.old).entries task phase.vpn) (λ x. IsPage (view parts.old) x) }
     ensures row { TouchLookRow (view parts.old) task phase result (view parts.new) }
-    ensures sizes { SizesStay (state_of parts.old) (state_of parts.new) }
-    ensures capacity { CapacityStays (state_of parts.old) (state_of parts.new) }
+    ensures memory { MemoryStays parts.old parts.new }
 {
     let Look { vpn, access } = phase;
     let space = &parts.spaces[task.place()];
@@ -101,8 +99,7 @@ fn from_look(parts: &mut Parts, task: Task, phase: Look) -> Turn<TouchPhase>
 #[tactic(auto, using(hp_parts::proofs::Carrying::carry_want, hp_parts::proofs::Carrying::carry_blocked))]
 fn from_want(parts: &mut Parts, task: Task, killed: bool, phase: Want) -> Turn<TouchPhase>
     ensures row { TouchWantRow (view parts.old) task killed phase result (view parts.new) }
-    ensures sizes { SizesStay (state_of parts.old) (state_of parts.new) }
-    ensures capacity { CapacityStays (state_of parts.old) (state_of parts.new) }
+    ensures memory { MemoryStays parts.old parts.new }
     ensures same { IfBlocked result (λ again. (again ≡ TouchPhase.Want phase) × (state_of parts.new ≡ state_of parts.old)) }
 {
     if killed {
@@ -118,8 +115,7 @@ fn from_want(parts: &mut Parts, task: Task, killed: bool, phase: Want) -> Turn<T
 fn from_locked(parts: &mut Parts, phase: Locked) -> Turn<TouchPhase>
     requires { IsFileOf (view parts.old) phase.touch.file }
     ensures row { TouchLockedRow (view parts.old) phase result (view parts.new) }
-    ensures sizes { SizesStay (state_of parts.old) (state_of parts.new) }
-    ensures capacity { CapacityStays (state_of parts.old) (state_of parts.new) }
+    ensures memory { MemoryStays parts.old parts.new }
 {
     let Locked { touch } = phase;
     let file = &parts.files[touch.file.number() as usize];
@@ -137,9 +133,8 @@ fn from_missing(parts: &mut Parts, grant: bool, phase: Missing) -> Result<Turn<T
     requires file { IsFileOf (view parts.old) phase.touch.file }
     requires in_limit { phase.touch.index < LIMIT }
     ensures row { IfOk result (λ turn. TouchMissingRow (view parts.old) grant phase turn (view parts.new)) }
-    ensures sizes { SizesStay (state_of parts.old) (state_of parts.new) }
-    ensures capacity { CapacityStaysUnless grant ((view parts.old).spare phase.touch.file ≡ (view parts.old).pending phase.touch.file)
-        (state_of parts.old) (state_of parts.new) }
+    ensures memory { MemoryStaysUnless grant ((view parts.old).spare phase.touch.file ≡ (view parts.old).pending phase.touch.file)
+        parts.old parts.new }
     ensures phase { IfErr result (λ again. again ≡ phase) }
     ensures err { OnErr result (state_of parts.new ≡ state_of parts.old) }
     ensures growth { OnErr result (grant ≡ true) }
@@ -160,8 +155,7 @@ fn from_changed(parts: &mut Parts, killed: bool, phase: Changed) -> Turn<TouchPh
     requires reserved { phase.pending.missing ≡ 0 → 1 ≤ (view parts.old).resv }
     requires used { (view parts.old).used + 1 < 2 ^ 32 }
     ensures row { TouchChangedRow (view parts.old) killed phase result (view parts.new) }
-    ensures sizes { SizesStay (state_of parts.old) (state_of parts.new) }
-    ensures capacity { CapacityStays (state_of parts.old) (state_of parts.new) }
+    ensures memory { MemoryStays parts.old parts.new }
 {
     let Changed { touch, pending } = phase;
     if killed {
@@ -182,8 +176,7 @@ fn from_abort(parts: &mut Parts, phase: Abort) -> Turn<TouchPhase>
     requires file { IsFileOf (view parts.old) phase.touch.file }
     requires pending { 1 ≤ (view parts.old).pending phase.touch.file }
     ensures row { TouchAbortRow (view parts.old) phase result (view parts.new) }
-    ensures sizes { SizesStay (state_of parts.old) (state_of parts.new) }
-    ensures capacity { CapacityStays (state_of parts.old) (state_of parts.new) }
+    ensures memory { MemoryStays parts.old parts.new }
 {
     let Abort {
         touch,
@@ -199,8 +192,7 @@ fn from_taken(parts: &mut Parts, phase: Taken) -> Turn<TouchPhase>
     requires file { IsFileOf (view parts.old) phase.touch.file }
     requires pending { 1 ≤ (view parts.old).pending phase.touch.file }
     ensures row { TouchTakenRow (view parts.old) phase result (view parts.new) }
-    ensures sizes { SizesStay (state_of parts.old) (state_of parts.new) }
-    ensures capacity { CapacityStays (state_of parts.old) (state_of parts.new) }
+    ensures memory { MemoryStays parts.old parts.new }
 {
     let Taken {
         touch,
@@ -222,8 +214,7 @@ fn from_settle(parts: &mut Parts, phase: Settle) -> Turn<TouchPhase>
     requires resv { 1 ≤ (view parts.old).resv }
     requires used { 1 ≤ (view parts.old).used }
     ensures row { TouchSettleRow (view parts.old) phase result (view parts.new) }
-    ensures sizes { SizesStay (state_of parts.old) (state_of parts.new) }
-    ensures capacity { CapacityStays (state_of parts.old) (state_of parts.new) }
+    ensures memory { MemoryStays parts.old parts.new }
 {
     let Settle { touch, held } = phase;
     parts.bank.settle(1);
@@ -241,9 +232,7 @@ fn from_committed(
     requires bare { (view parts.old).pages phase.touch.file phase.touch.index ≡ None }
     requires held { IsHeld (view parts.old) phase.held }
     ensures row { IfOk result (λ turn. TouchCommittedRow (view parts.old) grant phase turn (view parts.new)) }
-    ensures sizes { SizesStay (state_of parts.old) (state_of parts.new) }
-    ensures capacity { CapacityStaysUnless grant (phase.touch.index < (view parts.old).size phase.touch.file)
-        (state_of parts.old) (state_of parts.new) }
+    ensures memory { MemoryStaysUnless grant (phase.touch.index < (view parts.old).size phase.touch.file) parts.old parts.new }
     ensures phase { IfErr result (λ again. again ≡ phase) }
     ensures err { OnErr result (state_of parts.new ≡ state_of parts.old) }
     ensures growth { OnErr result (grant ≡ true) }
@@ -266,8 +255,7 @@ fn from_committed(
 fn from_restore(parts: &mut Parts, phase: Restore) -> Turn<TouchPhase>
     requires { IsHeld (view parts.old) phase.held }
     ensures row { TouchRestoreRow (view parts.old) phase result (view parts.new) }
-    ensures sizes { SizesStay (state_of parts.old) (state_of parts.new) }
-    ensures capacity { CapacityStays (state_of parts.old) (state_of parts.new) }
+    ensures memory { MemoryStays parts.old parts.new }
 {
     let Restore {
         touch,
@@ -291,9 +279,7 @@ fn from_found(
     requires untranslated { (view parts.old).entries task phase.touch.vpn ≡ None }
     requires page { HasPage (view parts.old) phase.touch.file phase.touch.index }
     ensures row { IfOk result (λ turn. TouchFoundRow (view parts.old) task grant phase turn (view parts.new)) }
-    ensures sizes { SizesStay (state_of parts.old) (state_of parts.new) }
-    ensures capacity { CapacityStaysUnless grant (phase.touch.index < (view parts.old).size phase.touch.file)
-        (state_of parts.old) (state_of parts.new) }
+    ensures memory { MemoryStaysUnless grant (phase.touch.index < (view parts.old).size phase.touch.file) parts.old parts.new }
     ensures phase { IfErr result (λ again. again ≡ phase) }
     ensures err { OnErr result (state_of parts.new ≡ state_of parts.old) }
     ensures growth { OnErr result (grant ≡ true) }
@@ -321,8 +307,7 @@ fn from_found(
 fn from_leave(parts: &mut Parts, task: Task, phase: Leave) -> Turn<TouchPhase>
     requires { (view parts.old).slots (slot_of (view parts.old).geometry phase.touch.file phase.touch.index) ≡ Some task }
     ensures row { TouchLeaveRow (view parts.old) phase result (view parts.new) }
-    ensures sizes { SizesStay (state_of parts.old) (state_of parts.new) }
-    ensures capacity { CapacityStays (state_of parts.old) (state_of parts.new) }
+    ensures memory { MemoryStays parts.old parts.new }
 {
     let Leave { touch, answer } = phase;
     leave_slot(parts, task, touch.file, touch.index);

@@ -21,3 +21,8 @@ History g frames (m ∷ ms) s = (m.after ≡ s) × Row m.before m.event m.outcom
 abbrev pub in_order : List Moment → List (Event × Outcome)
 in_order [] = []
 in_order (m ∷ ms) = in_order ms ++ ((m.event, m.outcome) ∷ [])
+
+-- the events without their outcomes
+abbrev pub events_of : List (Event × Outcome) → List Event
+events_of [] = []
+events_of (e ∷ es) = e.0 ∷ events_of es

@@ -9,7 +9,8 @@ use Rattle.hp_machine.specs.Events.{EventRows, RunBy, opening}
 use Rattle.hp_machine.specs.Headline.{reserved_in, vacant_in}
 use Rattle.hp_machine.specs.declared.outcome.Outcome.{Outcome}
 use Rattle.hp_machine.specs.declared.outcome.Outcome.TheVariants.{Ended}
-use Rattle.hp_counterexamples.specs.Runs.{events_of, IsAtRest}
+use Rattle.hp_laws.specs.Histories.{events_of}
+use Rattle.hp_counterexamples.specs.Runs.{IsAtRest}
 use Rattle.hp_counterexamples.proofs.Searching.{Clear, bind, pick}
 use Rattle.hp_counterexamples.proofs.Running.{Tries}
 use Rattle.hp_counterexamples.proofs.Breaking.{is_led, leads, rests, at_rest, both, equal, never}

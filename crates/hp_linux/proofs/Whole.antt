@@ -11,7 +11,7 @@ use Rattle.hp_machine.specs.declared.call.Call.{Call}
 use Rattle.hp_machine.specs.declared.call.Call.TheVariants as call
 use Rattle.hp_laws.specs.Laws.{NeverShort}
 use Rattle.hp_laws.specs.Enough.{CanSettle}
-use Rattle.hp_counterexamples.specs.Runs.{events_of}
+use Rattle.hp_laws.specs.Histories.{events_of}
 use Rattle.hp_counterexamples.proofs.Searching.{Clear, bind}
 use Rattle.hp_counterexamples.proofs.Running.{Tries}
 use Rattle.hp_counterexamples.proofs.Breaking.{rests, at_rest, both, equal, never, Fails, any_below, found_below, above}

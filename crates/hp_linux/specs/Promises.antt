@@ -8,7 +8,8 @@ use Rattle.hp_machine.specs.Events.{EventRows, RunBy, opening}
 use Rattle.hp_machine.specs.Headline.{reserved_in, vacant_in}
 use Rattle.hp_machine.specs.declared.outcome.Outcome.{Outcome}
 use Rattle.hp_machine.specs.declared.outcome.Outcome.TheVariants.{Ended}
-use Rattle.hp_counterexamples.specs.Runs.{events_of, IsAtRest, Leads}
+use Rattle.hp_laws.specs.Histories.{events_of}
+use Rattle.hp_counterexamples.specs.Runs.{IsAtRest, Leads}
 
 -- by these rows the events lead to rest, where so many frames are free, and so many reserved indices have no page
 abbrev pub LeavesWaiting : EventRows → Geometry → (frames : ℕ) → List Event → (free waiting : ℕ) → Type 0

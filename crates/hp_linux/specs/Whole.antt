@@ -17,7 +17,8 @@ use Rattle.hp_machine.specs.declared.truncate.TruncatePhase.TheVariants as trunc
 use Rattle.hp_machine.specs.declared.outcome.Outcome.{Outcome}
 use Rattle.hp_machine.specs.declared.call.Call.{Call}
 use Rattle.hp_machine.specs.declared.call.Call.TheVariants as call
-use Rattle.hp_counterexamples.specs.Runs.{events_of, IsAtRest}
+use Rattle.hp_laws.specs.Histories.{events_of}
+use Rattle.hp_counterexamples.specs.Runs.{IsAtRest}
 
 -- a state, and by how much Linux's count is below the one that is in it
 pub record Linux : Type 0 where

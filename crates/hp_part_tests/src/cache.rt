@@ -2,7 +2,7 @@
 ghost use Rattle.std.specs.Prelude.{◌<◌};
 
 use hp_base::{Frame, Index, LIMIT};
-use hp_cache::PageCache;
+use hp_chunks::PageCache;
 use std::alloc::{AllocError, Global};
 use std::process::Abort;
 

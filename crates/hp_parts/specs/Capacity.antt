@@ -1,9 +1,10 @@
 -- The memory that the parts have taken: to say that a step took none.
-use Rattle.std.specs.Prelude.{◌≡◌, ◌≤◌, ℕ, Bool, true, List, slice_index_or}
+use Rattle.std.specs.Prelude.{◌≡◌, ℕ, Bool, true, List, slice_index_or}
 use Rattle.hp_chunks.specs.Framed.{ChunkCapacity, NoMoreChunks}
 use Rattle.hp_table.specs.Table.{SpaceCapacity, NoMoreCapacity, Table}
 use Rattle.hp_parts.specs.declared.parts.FileState.{FileState}
-use Rattle.hp_parts.specs.State.{PartsState}
+use Rattle.hp_parts.specs.declared.parts.Parts.{Parts}
+use Rattle.hp_parts.specs.State.{PartsState, SizesStay, state_of}
 use Rattle.hp_parts.specs.View.{no_file, table_of}
 
 -- the capacity of each file's reserve map
@@ -31,6 +32,16 @@ CapacityStays old new = record {
   tasks : new.listed_tasks ≡ old.listed_tasks;
 }
 
--- none was, unless growth is granted and wanted
-abbrev pub CapacityStaysUnless : (grant : Bool) → (wants : Type 0) → PartsState → PartsState → Type 0
-CapacityStaysUnless grant wants old new = ¬ ((grant ≡ true) × wants) → CapacityStays old new
+-- as many of each thing as before, and no memory was taken
+abbrev pub MemoryStays : Parts → Parts → Type 0
+MemoryStays old new = record {
+  sizes : SizesStay (state_of old) (state_of new);
+  capacity : CapacityStays (state_of old) (state_of new);
+}
+
+-- as many of each thing as before, and memory was taken only where growth is granted and wanted
+abbrev pub MemoryStaysUnless : (grant : Bool) → (wants : Type 0) → Parts → Parts → Type 0
+MemoryStaysUnless grant wants old new = record {
+  sizes : SizesStay (state_of old) (state_of new);
+  capacity : ¬ ((grant ≡ true) × wants) → CapacityStays (state_of old) (state_of new);
+}

@@ -3,7 +3,8 @@
 //!
 //! It stands on the parts (bank, reserve maps, page caches, holders, spaces) and on hp_machine. The steps of calls stand on
 //! it, those that bring pages in (hp_fault) beside those that take them away (hp_remove). `view` reads the parts as the
-//! machine's pool; `CapacityStays` (`specs/Capacity.antt`) says that none of them took memory. It knows no operation.
+//! machine's pool; `MemoryStays` (`specs/Capacity.antt`) says that there are as many of each thing as before, and that none of
+//! them took memory. It knows no operation.
 #![tactic(auto)]
 
 pub mod locks;

@@ -3,8 +3,8 @@ ghost use Rattle.std.specs.Prelude.{◌≡◌, ◌+◌, ◌==◌, ◌||◌, nat_
 ghost use Rattle.hp_machine.specs.State.{slot_of};
 ghost use Rattle.hp_machine.specs.Parts.{StartRow, WantSlotRow, unslotted, unlocked};
 ghost use Rattle.hp_parts.specs.View.{view};
-ghost use Rattle.hp_parts.specs.State.{state_of, IsSized, SizesStay};
-ghost use Rattle.hp_parts.specs.Capacity.{CapacityStays};
+ghost use Rattle.hp_parts.specs.State.{state_of, IsSized};
+ghost use Rattle.hp_parts.specs.Capacity.{MemoryStays};
 ghost use Rattle.hp_parts.specs.Turns.{carried, IfBlocked};
 
 use crate::parts::Parts;
@@ -32,8 +32,7 @@ pub fn start(
 ) -> Turn<()>
     requires { IsSized (state_of parts.old) }
     ensures row { StartRow (view parts.old) task killed file is_bad at_kill tt tt result (view parts.new) }
-    ensures sizes { SizesStay (state_of parts.old) (state_of parts.new) }
-    ensures capacity { CapacityStays (state_of parts.old) (state_of parts.new) }
+    ensures memory { MemoryStays parts.old parts.new }
     ensures same { IfBlocked result (λ _. state_of parts.new ≡ state_of parts.old) }
 {
     let files = parts.files.len();
@@ -56,8 +55,7 @@ pub fn start(
 #[tactic(auto, using(crate::proofs::Laws::lock_laws))]
 pub fn want_slot(parts: &mut Parts, task: Task, file: File, index: Index) -> Turn<()>
     ensures row { WantSlotRow (view parts.old) task file index tt tt result (view parts.new) }
-    ensures sizes { SizesStay (state_of parts.old) (state_of parts.new) }
-    ensures capacity { CapacityStays (state_of parts.old) (state_of parts.new) }
+    ensures memory { MemoryStays parts.old parts.new }
     ensures same { IfBlocked result (λ _. state_of parts.new ≡ state_of parts.old) }
 {
     let slot = parts.slots.slot_of(file, index);
@@ -83,8 +81,7 @@ pub fn carry<P: Drop>(turn: Turn<()>, here: P, next: P) -> Turn<P>
 pub fn leave_slot(parts: &mut Parts, task: Task, file: File, index: Index)
     requires { (view parts.old).slots (slot_of (view parts.old).geometry file index) ≡ Some task }
     ensures left { view parts.new ≡ unslotted (view parts.old) file index }
-    ensures sizes { SizesStay (state_of parts.old) (state_of parts.new) }
-    ensures capacity { CapacityStays (state_of parts.old) (state_of parts.new) }
+    ensures memory { MemoryStays parts.old parts.new }
 {
     let slot = parts.slots.slot_of(file, index);
     parts.slots.leave(slot, task);
@@ -95,8 +92,7 @@ pub fn leave_slot(parts: &mut Parts, task: Task, file: File, index: Index)
 pub fn leave_lock(parts: &mut Parts, task: Task, file: File)
     requires { (view parts.old).locks file ≡ Some task }
     ensures left { view parts.new ≡ unlocked (view parts.old) file }
-    ensures sizes { SizesStay (state_of parts.old) (state_of parts.new) }
-    ensures capacity { CapacityStays (state_of parts.old) (state_of parts.new) }
+    ensures memory { MemoryStays parts.old parts.new }
 {
     parts.locks.leave(file.number(), task);
 }

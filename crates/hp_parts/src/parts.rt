@@ -1,5 +1,5 @@
 //! What all calls share.
-use hp_cache::PageCache;
+use hp_chunks::PageCache;
 use hp_frames::Bank;
 use hp_region::RegionMap;
 use hp_slots::SlotTable;

@@ -5,7 +5,6 @@ use Rattle.std.specs.Io.KnownBytes.{Appends, Keeps}
 use Rattle.hp_base.specs.Text.{sizes}
 use Rattle.hp_base.specs.declared.config.Config.{Config}
 use Rattle.hp_client.specs.Carrying.{RunOverCore, RunOverPool, StoppedOverCore, StoppedOverPool}
-use Rattle.hp_client.specs.Heard.{tally_of}
 use Rattle.hp_client.specs.Tables.{name_of}
 use Rattle.hp_client.specs.declared.fault.ClientFault.{ClientFault}
 use Rattle.hp_client.specs.declared.fault.ClientFault.TheVariants.{Memory}
@@ -13,6 +12,7 @@ use Rattle.hp_client.specs.declared.table.Workload.{Workload}
 use Rattle.hp_client.specs.declared.work.Report.{Report}
 use Rattle.hp_core.specs.State.{CoreState}
 use Rattle.hp_format.specs.Drafts.{IsLed}
+use Rattle.hp_shared.specs.States.{tally_of}
 use Rattle.hp_text.specs.Traces.{trace_text}
 use Rattle.hp_text.specs.Writing.{Wrote}
 use Rattle.hp_text.specs.declared.trace.Trace.{Trace}

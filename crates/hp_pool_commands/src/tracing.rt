@@ -1,10 +1,9 @@
 //! `hugepool work --trace`: what a workload's calls do to a pool, as a trace.
-ghost use Rattle.std.specs.Prelude.{◌≡◌, ◌+◌, ◌++◌, ◌≤◌, IfOk, length, vec_len, vec_capacity};
-ghost use Rattle.hp_client.specs.Heard.{heard_of};
+ghost use Rattle.std.specs.Prelude.{◌≡◌, ◌≤◌, IfOk, length};
 ghost use Rattle.hp_pool_commands.specs.Working.{IsTraced};
 
 use hp_base::{Answer, Event, Op, Task};
-use hp_client::{ClientFault, Driver, Report, Workload, config_of, run_workload};
+use hp_client::{ClientFault, Driver, Report, Workload, config_of, note_calls, run_workload};
 use hp_core::{Outcome, Tally};
 use hp_format::{Draft, Reason, Unadded};
 use hp_text::{MOST_EVENTS, Trace};
@@ -108,21 +107,10 @@ fn make_round(
     answers_of(alloc, answers.as_slice())
 }
 
-/// Adds the calls with their answers to what was heard, in room that was made before.
-fn note_calls(heard: &mut Vec<(Task, Op, Answer)>, calls: &[(Task, Op)], answers: &[Answer])
-    requires each { length answers.now ≡ length calls.now }
-    requires room { vec_len heard.old + length calls.now ≤ vec_capacity heard.old }
-    ensures { heard.new.items ≡ heard.old.items ++ heard_of calls.now answers.now }
-{
-    for (index, (task, op)) in calls.iter().enumerate() {
-        heard.push_reserved((*task, *op, answers[index]));
-    }
-}
-
 /// A round begins its calls in the list's order, and then gives each call that hasn't ended one granted step in turn, until all have.
 impl Driver for Tracer {
     ghost use Rattle.std.specs.Prelude.{◌≡◌};
-    ghost use Rattle.hp_client.specs.Heard.{tally_of};
+    ghost use Rattle.hp_shared.specs.States.{tally_of};
 
     ghost heard_by = { λ tracer. tracer.heard.items };
 

@@ -1,7 +1,7 @@
 -- Parts of a race, one after the other.
 use Rattle.std.proofs.Common.{◌≡◌, ℕ, ◌+◌, List, [], ◌∷◌, ◌++◌, Bool, refl, sym, ap, subst, ◌∙◌, length, map, take, drop}
 use Rattle.std.proofs.Common.{get_or, ◌<◌, ◌≤◌, max, inl, inr, arith}
-use Rattle.std.specs.Prelude.{true, false, MatchBool, All}
+use Rattle.std.specs.Prelude.{true, false, Option, Some, None, is_some, MatchBool, MatchOption, All}
 use Rattle.std.proofs.lemmas.Bool.{cases_lt, false≢true}
 use Rattle.std.proofs.lemmas.List.{append-nil, drop_all, length-map, take_all, take_more}
 use Rattle.std.proofs.lemmas.List.Elements.{All-map}
@@ -17,7 +17,7 @@ use Rattle.hp_shared.proofs.Runs.{follows_more}
 use Rattle.hp_shared.specs.Closing.{ClosesPoolOf, ClosesWith, RefusesClose}
 use Rattle.hp_shared.specs.Cutting.{emptied}
 use Rattle.hp_shared.specs.Journal.{Follows, Interleaves, IsCameTo}
-use Rattle.hp_shared.specs.Seats.{AllSeated, lists_of}
+use Rattle.hp_shared.specs.Seats.{AllSeated, LeastMissing, lists_of}
 use Rattle.hp_shared.specs.States.{SeatState, tally_of}
 use Rattle.hp_shared.specs.declared.entry.Entry.{Entry}
 use Rattle.hp_shared.specs.declared.fault.CloseFault.{CloseFault}
@@ -31,6 +31,12 @@ use Rattle.hp_race.specs.declared.line.Verdict.{Verdict}
 use Rattle.hp_race.specs.declared.line.Verdict.TheVariants.{Closed, Disagree, Astray}
 use Rattle.hp_race.specs.declared.call_range.CallRange.{CallRange}
 use Rattle.hp_race.proofs.Told.{pool_came}
+
+-- where no seat is missing, each task has one
+pub all_seated : (tasks : ℕ) (seats : List SeatState) (missing : Option ℕ) → is_some missing ≡ false
+    → MatchOption missing (AllSeated tasks seats) (LeastMissing tasks seats) → AllSeated tasks seats
+all_seated tasks seats None none found = found
+all_seated tasks seats (Some task) none found = absurd (false≢true (sym none))
 
 -- the most calls of a task, of one task more
 pub most_of : (lines : List (ℕ × Op)) (number most len now : ℕ)

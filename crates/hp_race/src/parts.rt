@@ -3,7 +3,7 @@ ghost use Rattle.std.specs.Prelude.{◌≡◌, ◌≤◌, ◌<◌, ◌+◌, ◌^
 ghost use Rattle.std.specs.Int.NonZero.{non_zero_u32_get};
 ghost use Rattle.hp_shared.specs.Cutting.{emptied};
 ghost use Rattle.hp_shared.specs.Journal.{Follows, Interleaves};
-ghost use Rattle.hp_shared.specs.Seats.{AllSeated, has_seat as seated, lists_of};
+ghost use Rattle.hp_shared.specs.Seats.{lists_of};
 ghost use Rattle.hp_shared.specs.declared.entry.Entry.{Entry};
 ghost use Rattle.hp_race.specs.Calls.{is_mortal};
 ghost use Rattle.hp_race.specs.Racers.{IsNew};
@@ -16,7 +16,7 @@ use crate::line::Race;
 use crate::racer::{Track, make_range};
 use crate::telling::{told_of_parts, told_of_refused};
 use hp_base::Task;
-use hp_shared::{CutFault, Seat, Shared};
+use hp_shared::{CutFault, Seat, Shared, missing_seat};
 use hp_text::Script;
 use std::alloc::{AllocError, Global};
 use std::marker::Brand;
@@ -127,7 +127,7 @@ fn make_part<L: Ledger + Send + Sync, R: Threads + Wait + Sync>(
     if !made {
         return Ok((false, seats));
     }
-    if !are_seated(script.config.tasks, seats.as_slice()) {
+    if missing_seat(script.config.tasks, seats.as_slice()).is_some() {
         return Ok((false, seats));
     }
     let cut = cut_part(rt, alloc, track.shared, again, &mut seats)?;
@@ -167,22 +167,4 @@ fn longest(alloc: Global, script: &Script) -> Result<usize, AllocError>
         longest = calls.len().max(longest);
     }
     Ok(longest)
-}
-
-// Whether each task has a seat.
-fn are_seated<L: Ledger>(tasks: u32, seats: &[Seat<L>]) -> bool
-    ensures { result ≡ true → AllSeated tasks seats.now }
-{
-    for number in 0..tasks {
-        if !has_seat(seats, Task::new(number + 1)) {
-            return false;
-        }
-    }
-    true
-}
-
-fn has_seat<L: Ledger>(seats: &[Seat<L>], task: Task) -> bool
-    ensures { result ≡ seated task seats.now }
-{
-    seats.iter().any(|seat| seat.task() == task)
 }

@@ -11,7 +11,7 @@ use crate::chances::{Chances, Draws, stream};
 use crate::starting_line::{Course, StartingLine};
 use crate::waiting::{Board, Need, Turns, needs_of, own_needs};
 use hp_base::{Event, Op};
-use hp_core::Refusal;
+use hp_core::{Refusal, is_exit};
 use hp_shared::{CallFault, Halting, Hold, Reply, Seat, Shared, call};
 use hp_text::Script;
 use std::alloc::{AllocError, Global};
@@ -47,17 +47,11 @@ pub(crate) struct Racer<L: Ledger> {
     pub(crate) ending: Ending,
 }
 
-fn is_exit(op: &Op) -> bool
-    ensures { result ≡ is_exit op.now }
-{
-    matches!(op, Op::Exit)
-}
-
-// Whether one of the calls is an exit.
+// Whether one of the calls is an exit. (A function of another crate that is passed by name gets no proof here.)
 fn has_exit(calls: &[Op]) -> bool
     ensures { result ≡ list_any is_exit calls.now }
 {
-    calls.iter().any(is_exit)
+    calls.iter().any(|op| is_exit(op))
 }
 
 // Whether a call may end so, of a task that may have been killed or not, and has exited or not, where its seat had so many

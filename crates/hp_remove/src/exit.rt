@@ -1,8 +1,7 @@
 //! One function for each phase of the end of a task (Linux: `exit_mmap`).
 ghost use Rattle.hp_machine.specs.ExitRows.{ExitRow, ExitStartRow, ExitClearRow, ExitDropRow};
 ghost use Rattle.hp_parts.specs.View.{view};
-ghost use Rattle.hp_parts.specs.State.{state_of, SizesStay};
-ghost use Rattle.hp_parts.specs.Capacity.{CapacityStays};
+ghost use Rattle.hp_parts.specs.Capacity.{MemoryStays};
 ghost use Rattle.hp_parts.specs.Fits.{IsTaskOf};
 ghost use Rattle.hp_remove.specs.Fits.{ExitFits, IsCleared};
 
@@ -23,8 +22,7 @@ pub fn step_exit(
 ) -> Turn<ExitPhase>
     requires { ExitFits (view parts.old) task phase }
     ensures row { ExitRow (view parts.old) task killed grant phase result (view parts.new) }
-    ensures sizes { SizesStay (state_of parts.old) (state_of parts.new) }
-    ensures capacity { CapacityStays (state_of parts.old) (state_of parts.new) }
+    ensures memory { MemoryStays parts.old parts.new }
 {
     let _ = (killed, grant);
     match phase {
@@ -39,8 +37,7 @@ pub fn step_exit(
 fn from_start(parts: &mut Parts, task: Task) -> Turn<ExitPhase>
     requires { IsTaskOf (view parts.old) task }
     ensures row { ExitStartRow (view parts.old) task result (view parts.new) }
-    ensures sizes { SizesStay (state_of parts.old) (state_of parts.new) }
-    ensures capacity { CapacityStays (state_of parts.old) (state_of parts.new) }
+    ensures memory { MemoryStays parts.old parts.new }
 {
     match parts.spaces[task.place()].first() {
         Some(base) => Turn::Moved(ExitPhase::Clear(Clear { base })),
@@ -51,8 +48,7 @@ fn from_start(parts: &mut Parts, task: Task) -> Turn<ExitPhase>
 fn from_clear(parts: &mut Parts, task: Task, phase: Clear) -> Turn<ExitPhase>
     requires { IsTaskOf (view parts.old) task }
     ensures row { ExitClearRow (view parts.old) task phase result (view parts.new) }
-    ensures sizes { SizesStay (state_of parts.old) (state_of parts.new) }
-    ensures capacity { CapacityStays (state_of parts.old) (state_of parts.new) }
+    ensures memory { MemoryStays parts.old parts.new }
 {
     let Clear { base } = phase;
     clear_mapping(parts, task, base);
@@ -64,8 +60,7 @@ fn from_drop(parts: &mut Parts, task: Task, phase: Drop) -> Turn<ExitPhase>
     requires task { IsTaskOf (view parts.old) task }
     requires bare { IsCleared (view parts.old) task phase.base }
     ensures row { ExitDropRow (view parts.old) task phase result (view parts.new) }
-    ensures sizes { SizesStay (state_of parts.old) (state_of parts.new) }
-    ensures capacity { CapacityStays (state_of parts.old) (state_of parts.new) }
+    ensures memory { MemoryStays parts.old parts.new }
 {
     let Drop { base } = phase;
     drop_mapping(parts, task, base);

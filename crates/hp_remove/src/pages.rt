@@ -5,8 +5,7 @@ ghost use Rattle.hp_base.specs.Mappings.{without, without_index};
 ghost use Rattle.hp_frames.specs.declared.frame.FrameState.TheVariants.{Hand};
 ghost use Rattle.hp_machine.specs.Parts.{cleared};
 ghost use Rattle.hp_parts.specs.View.{view};
-ghost use Rattle.hp_parts.specs.State.{state_of, SizesStay};
-ghost use Rattle.hp_parts.specs.Capacity.{CapacityStays};
+ghost use Rattle.hp_parts.specs.Capacity.{MemoryStays};
 ghost use Rattle.hp_parts.specs.Fits.{IsTaskOf, IsFileOf, HasPage};
 ghost use Rattle.hp_remove.specs.Fits.{IsCleared};
 
@@ -22,8 +21,7 @@ pub fn clear_index(parts: &mut Parts, task: Task, file: File, index: Index)
       entries = put (view parts.old).entries task
           (without_index ((view parts.old).mappings task) ((view parts.old).entries task) file index);
     } }
-    ensures sizes { SizesStay (state_of parts.old) (state_of parts.new) }
-    ensures capacity { CapacityStays (state_of parts.old) (state_of parts.new) }
+    ensures memory { MemoryStays parts.old parts.new }
 {
     parts.spaces[task.place()].clear_index(file, index);
 }
@@ -38,8 +36,7 @@ pub fn evict_page(parts: &mut Parts, file: File, index: Index) -> Held
       pages = put2 (view parts.old).pages file index None;
       frame = put (view parts.old).frame result Hand;
     } }
-    ensures sizes { SizesStay (state_of parts.old) (state_of parts.new) }
-    ensures capacity { CapacityStays (state_of parts.old) (state_of parts.new) }
+    ensures memory { MemoryStays parts.old parts.new }
 {
     let frame = parts.files[file.number() as usize].cache.evict(index);
     parts.bank.evict(frame)
@@ -50,8 +47,7 @@ pub fn evict_page(parts: &mut Parts, file: File, index: Index) -> Held
 pub fn clear_mapping(parts: &mut Parts, task: Task, base: Vpn)
     requires { IsTaskOf (view parts.old) task }
     ensures after { view parts.new ≡ cleared (view parts.old) task base }
-    ensures sizes { SizesStay (state_of parts.old) (state_of parts.new) }
-    ensures capacity { CapacityStays (state_of parts.old) (state_of parts.new) }
+    ensures memory { MemoryStays parts.old parts.new }
 {
     parts.spaces[task.place()].clear_mapping(base);
 }
@@ -63,8 +59,7 @@ pub fn drop_mapping(parts: &mut Parts, task: Task, base: Vpn)
     requires bare { IsCleared (view parts.old) task base }
     ensures after { view parts.new
         ≡ record (view parts.old) { mappings = put (view parts.old).mappings task (without ((view parts.old).mappings task) base) } }
-    ensures sizes { SizesStay (state_of parts.old) (state_of parts.new) }
-    ensures capacity { CapacityStays (state_of parts.old) (state_of parts.new) }
+    ensures memory { MemoryStays parts.old parts.new }
 {
     parts.spaces[task.place()].drop_mapping(base);
 }

@@ -8,8 +8,8 @@ ghost use Rattle.hp_machine.specs.Standings.{standing};
 ghost use Rattle.hp_machine.specs.declared.call.Call.TheVariants as call;
 ghost use Rattle.hp_parts.specs.Turns.{IfBlocked, IfWanting};
 ghost use Rattle.hp_parts.specs.View.{view};
-ghost use Rattle.hp_parts.specs.State.{state_of, IsSized, SizesStay};
-ghost use Rattle.hp_parts.specs.Capacity.{CapacityStays, CapacityStaysUnless};
+ghost use Rattle.hp_parts.specs.State.{state_of, IsSized};
+ghost use Rattle.hp_parts.specs.Capacity.{MemoryStays, MemoryStaysUnless};
 ghost use Rattle.hp_parts.specs.Fits.{IsTaskOf, IsFileOf, IsHeld, HasPage};
 ghost use Rattle.hp_remove.specs.Fits.{PunchFits};
 
@@ -35,8 +35,7 @@ pub fn step_punch(
     requires sized { IsSized (state_of parts.old) }
     requires fits { PunchFits (view parts.old) task phase }
     ensures row { IfOk result (λ turn. PunchRow (view parts.old) task killed grant phase turn (view parts.new)) }
-    ensures sizes { SizesStay (state_of parts.old) (state_of parts.new) }
-    ensures capacity { CapacityStaysUnless grant (punch_wants (view parts.old) phase) (state_of parts.old) (state_of parts.new) }
+    ensures memory { MemoryStaysUnless grant (punch_wants (view parts.old) phase) parts.old parts.new }
     ensures blocked { IfOk result (λ turn. IfWanting (standing (call.Punch phase)).wants
         (IfBlocked turn (λ again. (again ≡ phase) × (state_of parts.new ≡ state_of parts.old)))) }
     ensures phase { IfErr result (λ stopped. stopped.phase ≡ phase) }
@@ -63,8 +62,7 @@ pub fn step_punch(
 fn from_start(parts: &mut Parts, task: Task, killed: bool, phase: Start) -> Turn<PunchPhase>
     requires { IsSized (state_of parts.old) }
     ensures row { PunchStartRow (view parts.old) task killed phase result (view parts.new) }
-    ensures sizes { SizesStay (state_of parts.old) (state_of parts.new) }
-    ensures capacity { CapacityStays (state_of parts.old) (state_of parts.new) }
+    ensures memory { MemoryStays parts.old parts.new }
     ensures same { IfBlocked result (λ again. (again ≡ PunchPhase.Start phase) × (state_of parts.new ≡ state_of parts.old)) }
 {
     let hole = phase.hole;
@@ -78,8 +76,7 @@ fn from_start(parts: &mut Parts, task: Task, killed: bool, phase: Start) -> Turn
 #[tactic(auto, using(hp_parts::proofs::Carrying::carry_want, hp_parts::proofs::Carrying::carry_blocked))]
 fn from_want(parts: &mut Parts, task: Task, phase: Want) -> Turn<PunchPhase>
     ensures row { PunchWantRow (view parts.old) task phase result (view parts.new) }
-    ensures sizes { SizesStay (state_of parts.old) (state_of parts.new) }
-    ensures capacity { CapacityStays (state_of parts.old) (state_of parts.new) }
+    ensures memory { MemoryStays parts.old parts.new }
     ensures same { IfBlocked result (λ again. (again ≡ PunchPhase.Want phase) × (state_of parts.new ≡ state_of parts.old)) }
 {
     let (hole, index) = (phase.hole, phase.index);
@@ -92,8 +89,7 @@ fn from_want(parts: &mut Parts, task: Task, phase: Want) -> Turn<PunchPhase>
 fn from_locked(parts: &mut Parts, phase: Locked) -> Turn<PunchPhase>
     requires { IsFileOf (view parts.old) phase.hole.file }
     ensures row { PunchLockedRow (view parts.old) phase result (view parts.new) }
-    ensures sizes { SizesStay (state_of parts.old) (state_of parts.new) }
-    ensures capacity { CapacityStays (state_of parts.old) (state_of parts.new) }
+    ensures memory { MemoryStays parts.old parts.new }
 {
     let Locked { hole, index } = phase;
     match parts.files[hole.file.number() as usize].cache.get(index) {
@@ -110,8 +106,7 @@ fn from_unmap(parts: &mut Parts, phase: Unmap) -> Turn<PunchPhase>
     requires task { IsTaskOf (view parts.old) phase.task }
     requires few { (view parts.old).geometry.tasks < 2 ^ 32 }
     ensures row { PunchUnmapRow (view parts.old) phase result (view parts.new) }
-    ensures sizes { SizesStay (state_of parts.old) (state_of parts.new) }
-    ensures capacity { CapacityStays (state_of parts.old) (state_of parts.new) }
+    ensures memory { MemoryStays parts.old parts.new }
 {
     let Unmap { hole, index, task } = phase;
     clear_index(parts, task, hole.file, index);
@@ -127,8 +122,7 @@ fn from_evict(parts: &mut Parts, phase: Evict) -> Turn<PunchPhase>
     requires file { IsFileOf (view parts.old) phase.hole.file }
     requires page { HasPage (view parts.old) phase.hole.file phase.index }
     ensures row { PunchEvictRow (view parts.old) phase result (view parts.new) }
-    ensures sizes { SizesStay (state_of parts.old) (state_of parts.new) }
-    ensures capacity { CapacityStays (state_of parts.old) (state_of parts.new) }
+    ensures memory { MemoryStays parts.old parts.new }
 {
     let Evict { hole, index } = phase;
     let held = evict_page(parts, hole.file, index);
@@ -140,9 +134,7 @@ fn from_delete(parts: &mut Parts, grant: bool, phase: Delete) -> Result<Turn<Pun
     requires file { IsFileOf (view parts.old) phase.hole.file }
     requires spared { (view parts.old).pending phase.hole.file ≤ (view parts.old).spare phase.hole.file }
     ensures row { IfOk result (λ turn. PunchDeleteRow (view parts.old) grant phase turn (view parts.new)) }
-    ensures sizes { SizesStay (state_of parts.old) (state_of parts.new) }
-    ensures capacity { CapacityStaysUnless grant (punch_wants (view parts.old) (PunchPhase.Delete phase))
-        (state_of parts.old) (state_of parts.new) }
+    ensures memory { MemoryStaysUnless grant (punch_wants (view parts.old) (PunchPhase.Delete phase)) parts.old parts.new }
     ensures phase { IfErr result (λ again. again ≡ phase) }
     ensures err { OnErr result (state_of parts.new ≡ state_of parts.old) }
     ensures growth { OnErr result (grant ≡ true) }
@@ -164,8 +156,7 @@ fn from_free(parts: &mut Parts, phase: Free) -> Turn<PunchPhase>
     requires held { IsHeld (view parts.old) phase.held }
     requires used { phase.denied ≡ false → 1 ≤ (view parts.old).used }
     ensures row { PunchFreeRow (view parts.old) phase result (view parts.new) }
-    ensures sizes { SizesStay (state_of parts.old) (state_of parts.new) }
-    ensures capacity { CapacityStays (state_of parts.old) (state_of parts.new) }
+    ensures memory { MemoryStays parts.old parts.new }
 {
     let Free {
         hole,
@@ -187,8 +178,7 @@ fn from_unslot(parts: &mut Parts, task: Task, phase: Unslot) -> Turn<PunchPhase>
     requires in_limit { phase.hole.from + phase.hole.len ≤ LIMIT }
     requires index { phase.index < LIMIT }
     ensures row { PunchUnslotRow (view parts.old) phase result (view parts.new) }
-    ensures sizes { SizesStay (state_of parts.old) (state_of parts.new) }
-    ensures capacity { CapacityStays (state_of parts.old) (state_of parts.new) }
+    ensures memory { MemoryStays parts.old parts.new }
 {
     let Unslot { hole, index } = phase;
     leave_slot(parts, task, hole.file, index);
@@ -204,8 +194,7 @@ fn from_unslot(parts: &mut Parts, task: Task, phase: Unslot) -> Turn<PunchPhase>
 fn from_leave(parts: &mut Parts, task: Task, phase: Leave) -> Turn<PunchPhase>
     requires { (view parts.old).locks phase.hole.file ≡ Some task }
     ensures row { PunchLeaveRow (view parts.old) phase result (view parts.new) }
-    ensures sizes { SizesStay (state_of parts.old) (state_of parts.new) }
-    ensures capacity { CapacityStays (state_of parts.old) (state_of parts.new) }
+    ensures memory { MemoryStays parts.old parts.new }
 {
     let Leave { hole } = phase;
     leave_lock(parts, task, hole.file);

@@ -11,8 +11,8 @@ ghost use Rattle.hp_machine.specs.Standings.{standing};
 ghost use Rattle.hp_machine.specs.declared.call.Call.TheVariants as call;
 ghost use Rattle.hp_parts.specs.Turns.{IfBlocked, IfWanting};
 ghost use Rattle.hp_parts.specs.View.{view};
-ghost use Rattle.hp_parts.specs.State.{state_of, IsSized, SizesStay};
-ghost use Rattle.hp_parts.specs.Capacity.{CapacityStays};
+ghost use Rattle.hp_parts.specs.State.{state_of, IsSized};
+ghost use Rattle.hp_parts.specs.Capacity.{MemoryStays};
 ghost use Rattle.hp_parts.specs.Fits.{IsTaskOf, IsFileOf, IsHeld, HasPage};
 ghost use Rattle.hp_remove.specs.Fits.{TruncateFits};
 
@@ -36,8 +36,7 @@ pub fn step_truncate(
     requires sized { IsSized (state_of parts.old) }
     requires fits { TruncateFits (view parts.old) task phase }
     ensures row { TruncateRow (view parts.old) task killed grant phase result (view parts.new) }
-    ensures sizes { SizesStay (state_of parts.old) (state_of parts.new) }
-    ensures capacity { CapacityStays (state_of parts.old) (state_of parts.new) }
+    ensures memory { MemoryStays parts.old parts.new }
     ensures blocked { IfWanting (standing (call.Truncate phase)).wants
         (IfBlocked result (λ again. (again ≡ phase) × (state_of parts.new ≡ state_of parts.old))) }
 {
@@ -61,8 +60,7 @@ pub fn step_truncate(
 fn from_start(parts: &mut Parts, task: Task, killed: bool, phase: Start) -> Turn<TruncatePhase>
     requires { IsSized (state_of parts.old) }
     ensures row { TruncateStartRow (view parts.old) task killed phase result (view parts.new) }
-    ensures sizes { SizesStay (state_of parts.old) (state_of parts.new) }
-    ensures capacity { CapacityStays (state_of parts.old) (state_of parts.new) }
+    ensures memory { MemoryStays parts.old parts.new }
     ensures same { IfBlocked result (λ again. (again ≡ TruncatePhase.Start phase) × (state_of parts.new ≡ state_of parts.old)) }
 {
     let truncation = phase.truncation;
@@ -76,8 +74,7 @@ fn from_start(parts: &mut Parts, task: Task, killed: bool, phase: Start) -> Turn
 fn from_size(parts: &mut Parts, phase: Size) -> Turn<TruncatePhase>
     requires { IsFileOf (view parts.old) phase.truncation.file }
     ensures row { TruncateSizeRow (view parts.old) phase result (view parts.new) }
-    ensures sizes { SizesStay (state_of parts.old) (state_of parts.new) }
-    ensures capacity { CapacityStays (state_of parts.old) (state_of parts.new) }
+    ensures memory { MemoryStays parts.old parts.new }
 {
     let Size { truncation } = phase;
     let top = set_size(parts, truncation.file, truncation.new);
@@ -102,8 +99,7 @@ fn set_size(parts: &mut Parts, file: File, new: u32) -> u32
     requires { IsFileOf (view parts.old) file }
     ensures top { (end : ℕ) × IsPagesEnd ((view parts.old).pages file) end × (result ≡ max ((view parts.old).size file) end) }
     ensures after { view parts.new ≡ record (view parts.old) { size = put (view parts.old).size file new } }
-    ensures sizes { SizesStay (state_of parts.old) (state_of parts.new) }
-    ensures capacity { CapacityStays (state_of parts.old) (state_of parts.new) }
+    ensures memory { MemoryStays parts.old parts.new }
 {
     let file = &mut parts.files[file.number() as usize];
     let top = file.size.max(file.cache.top());
@@ -114,8 +110,7 @@ fn set_size(parts: &mut Parts, file: File, new: u32) -> u32
 #[tactic(auto, using(hp_parts::proofs::Carrying::carry_want, hp_parts::proofs::Carrying::carry_blocked))]
 fn from_want(parts: &mut Parts, task: Task, phase: Want) -> Turn<TruncatePhase>
     ensures row { TruncateWantRow (view parts.old) task phase result (view parts.new) }
-    ensures sizes { SizesStay (state_of parts.old) (state_of parts.new) }
-    ensures capacity { CapacityStays (state_of parts.old) (state_of parts.new) }
+    ensures memory { MemoryStays parts.old parts.new }
     ensures same { IfBlocked result (λ again. (again ≡ TruncatePhase.Want phase) × (state_of parts.new ≡ state_of parts.old)) }
 {
     let (truncation, index, evicted) = (phase.truncation, phase.index, phase.evicted);
@@ -132,8 +127,7 @@ fn from_want(parts: &mut Parts, task: Task, phase: Want) -> Turn<TruncatePhase>
 fn from_locked(parts: &mut Parts, phase: Locked) -> Turn<TruncatePhase>
     requires { IsFileOf (view parts.old) phase.truncation.file }
     ensures row { TruncateLockedRow (view parts.old) phase result (view parts.new) }
-    ensures sizes { SizesStay (state_of parts.old) (state_of parts.new) }
-    ensures capacity { CapacityStays (state_of parts.old) (state_of parts.new) }
+    ensures memory { MemoryStays parts.old parts.new }
 {
     let Locked {
         truncation,
@@ -162,8 +156,7 @@ fn from_unmap(parts: &mut Parts, phase: Unmap) -> Turn<TruncatePhase>
     requires task { IsTaskOf (view parts.old) phase.task }
     requires few { (view parts.old).geometry.tasks < 2 ^ 32 }
     ensures row { TruncateUnmapRow (view parts.old) phase result (view parts.new) }
-    ensures sizes { SizesStay (state_of parts.old) (state_of parts.new) }
-    ensures capacity { CapacityStays (state_of parts.old) (state_of parts.new) }
+    ensures memory { MemoryStays parts.old parts.new }
 {
     let Unmap {
         truncation,
@@ -193,8 +186,7 @@ fn from_evict(parts: &mut Parts, phase: Evict) -> Turn<TruncatePhase>
     requires page { HasPage (view parts.old) phase.truncation.file phase.index }
     requires few { phase.evicted ≤ LIMIT }
     ensures row { TruncateEvictRow (view parts.old) phase result (view parts.new) }
-    ensures sizes { SizesStay (state_of parts.old) (state_of parts.new) }
-    ensures capacity { CapacityStays (state_of parts.old) (state_of parts.new) }
+    ensures memory { MemoryStays parts.old parts.new }
 {
     let Evict {
         truncation,
@@ -214,8 +206,7 @@ fn from_evict(parts: &mut Parts, phase: Evict) -> Turn<TruncatePhase>
 fn from_free(parts: &mut Parts, phase: Free) -> Turn<TruncatePhase>
     requires { IsHeld (view parts.old) phase.held }
     ensures row { TruncateFreeRow (view parts.old) phase result (view parts.new) }
-    ensures sizes { SizesStay (state_of parts.old) (state_of parts.new) }
-    ensures capacity { CapacityStays (state_of parts.old) (state_of parts.new) }
+    ensures memory { MemoryStays parts.old parts.new }
 {
     let Free {
         truncation,
@@ -234,8 +225,7 @@ fn from_free(parts: &mut Parts, phase: Free) -> Turn<TruncatePhase>
 fn from_unslot(parts: &mut Parts, task: Task, phase: Unslot) -> Turn<TruncatePhase>
     requires { (view parts.old).slots (slot_of (view parts.old).geometry phase.truncation.file phase.index) ≡ Some task }
     ensures row { TruncateUnslotRow (view parts.old) phase result (view parts.new) }
-    ensures sizes { SizesStay (state_of parts.old) (state_of parts.new) }
-    ensures capacity { CapacityStays (state_of parts.old) (state_of parts.new) }
+    ensures memory { MemoryStays parts.old parts.new }
 {
     let Unslot {
         truncation,
@@ -262,8 +252,7 @@ fn from_tail(parts: &mut Parts, phase: Tail) -> Turn<TruncatePhase>
     requires file { IsFileOf (view parts.old) phase.truncation.file }
     requires evicted { phase.evicted ≤ count_within ((view parts.old).reserved phase.truncation.file) phase.truncation.new LIMIT }
     ensures row { TruncateTailRow (view parts.old) phase result (view parts.new) }
-    ensures sizes { SizesStay (state_of parts.old) (state_of parts.new) }
-    ensures capacity { CapacityStays (state_of parts.old) (state_of parts.new) }
+    ensures memory { MemoryStays parts.old parts.new }
 {
     let Tail {
         truncation,
@@ -285,8 +274,7 @@ fn from_settle(parts: &mut Parts, phase: Settle) -> Turn<TruncatePhase>
     requires resv { phase.excess ≤ (view parts.old).resv }
     requires used { phase.excess + phase.evicted ≤ (view parts.old).used }
     ensures row { TruncateSettleRow (view parts.old) phase result (view parts.new) }
-    ensures sizes { SizesStay (state_of parts.old) (state_of parts.new) }
-    ensures capacity { CapacityStays (state_of parts.old) (state_of parts.new) }
+    ensures memory { MemoryStays parts.old parts.new }
 {
     let Settle {
         truncation,
@@ -301,8 +289,7 @@ fn from_settle(parts: &mut Parts, phase: Settle) -> Turn<TruncatePhase>
 fn from_leave(parts: &mut Parts, task: Task, phase: Leave) -> Turn<TruncatePhase>
     requires { (view parts.old).locks phase.truncation.file ≡ Some task }
     ensures row { TruncateLeaveRow (view parts.old) phase result (view parts.new) }
-    ensures sizes { SizesStay (state_of parts.old) (state_of parts.new) }
-    ensures capacity { CapacityStays (state_of parts.old) (state_of parts.new) }
+    ensures memory { MemoryStays parts.old parts.new }
 {
     let Leave { truncation } = phase;
     leave_lock(parts, task, truncation.file);

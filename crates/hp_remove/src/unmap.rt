@@ -1,8 +1,7 @@
 //! One function for each phase of an unmap of a whole mapping (Linux: `do_munmap`).
 ghost use Rattle.hp_machine.specs.UnmapRows.{UnmapRow, UnmapStartRow, UnmapClearRow, UnmapDropRow};
 ghost use Rattle.hp_parts.specs.View.{view};
-ghost use Rattle.hp_parts.specs.State.{state_of, SizesStay};
-ghost use Rattle.hp_parts.specs.Capacity.{CapacityStays};
+ghost use Rattle.hp_parts.specs.Capacity.{MemoryStays};
 ghost use Rattle.hp_parts.specs.Fits.{IsTaskOf};
 ghost use Rattle.hp_remove.specs.Fits.{UnmapFits, IsCleared};
 
@@ -23,8 +22,7 @@ pub fn step_unmap(
 ) -> Turn<UnmapPhase>
     requires { UnmapFits (view parts.old) task phase }
     ensures row { UnmapRow (view parts.old) task killed grant phase result (view parts.new) }
-    ensures sizes { SizesStay (state_of parts.old) (state_of parts.new) }
-    ensures capacity { CapacityStays (state_of parts.old) (state_of parts.new) }
+    ensures memory { MemoryStays parts.old parts.new }
 {
     let _ = (killed, grant);
     match phase {
@@ -38,8 +36,7 @@ pub fn step_unmap(
 fn from_start(parts: &mut Parts, task: Task, phase: Start) -> Turn<UnmapPhase>
     requires { IsTaskOf (view parts.old) task }
     ensures row { UnmapStartRow (view parts.old) task phase result (view parts.new) }
-    ensures sizes { SizesStay (state_of parts.old) (state_of parts.new) }
-    ensures capacity { CapacityStays (state_of parts.old) (state_of parts.new) }
+    ensures memory { MemoryStays parts.old parts.new }
 {
     let Start { base } = phase;
     let space = &parts.spaces[task.place()];
@@ -53,8 +50,7 @@ fn from_start(parts: &mut Parts, task: Task, phase: Start) -> Turn<UnmapPhase>
 fn from_clear(parts: &mut Parts, task: Task, phase: Clear) -> Turn<UnmapPhase>
     requires { IsTaskOf (view parts.old) task }
     ensures row { UnmapClearRow (view parts.old) task phase result (view parts.new) }
-    ensures sizes { SizesStay (state_of parts.old) (state_of parts.new) }
-    ensures capacity { CapacityStays (state_of parts.old) (state_of parts.new) }
+    ensures memory { MemoryStays parts.old parts.new }
 {
     let Clear { base } = phase;
     clear_mapping(parts, task, base);
@@ -65,8 +61,7 @@ fn from_drop(parts: &mut Parts, task: Task, phase: Drop) -> Turn<UnmapPhase>
     requires task { IsTaskOf (view parts.old) task }
     requires bare { IsCleared (view parts.old) task phase.base }
     ensures row { UnmapDropRow (view parts.old) task phase result (view parts.new) }
-    ensures sizes { SizesStay (state_of parts.old) (state_of parts.new) }
-    ensures capacity { CapacityStays (state_of parts.old) (state_of parts.new) }
+    ensures memory { MemoryStays parts.old parts.new }
 {
     let Drop { base } = phase;
     drop_mapping(parts, task, base);

@@ -6,7 +6,8 @@ use Rattle.hp_machine.specs.State.{Geometry}
 use Rattle.hp_machine.specs.Events.{EventRows}
 use Rattle.hp_machine.specs.Headline.{vacant_in}
 use Rattle.hp_machine.specs.declared.outcome.Outcome.{Outcome}
-use Rattle.hp_counterexamples.specs.Runs.{steps, calls, events_of, IsAtRest}
+use Rattle.hp_laws.specs.Histories.{events_of}
+use Rattle.hp_counterexamples.specs.Runs.{steps, calls, IsAtRest}
 use Rattle.hp_linux.specs.Whole.{Linux, WholeRun, begins}
 
 -- the calls of a recorded loss (lost_at_a_commit): a touch misses nothing, and a truncation comes to its index. It waits there for the

@@ -9,7 +9,8 @@ use Rattle.hp_machine.specs.Events.{Row, Run, opening}
 use Rattle.hp_machine.specs.declared.outcome.Outcome.{Outcome}
 use Rattle.hp_laws.proofs.Invariant.{Inv}
 use Rattle.hp_laws.proofs.Runs.{Always, row_keeps, opens_well}
-use Rattle.hp_sequential.specs.Renaming.{Renaming, renamed, Alike, events_of}
+use Rattle.hp_laws.specs.Histories.{events_of}
+use Rattle.hp_sequential.specs.Renaming.{Renaming, renamed, Alike}
 use Rattle.hp_sequential.proofs.Events.{InUse, event_row}
 use Rattle.hp_sequential.proofs.Names.{as_many, own_names, wider}
 use Rattle.hp_sequential.proofs.Parts.{IsUsed}

@@ -1,7 +1,6 @@
 -- Frames under other names, and states that differ in the names of frames alone.
-use Rattle.std.specs.Prelude.{◌≡◌, ℕ, ◌≤◌, List, [], ◌∷◌}
+use Rattle.std.specs.Prelude.{◌≡◌, ℕ, ◌≤◌}
 use Rattle.std.specs.Option.{option_map}
-use Rattle.hp_base.specs.declared.event.Event.{Event}
 use Rattle.hp_machine.specs.State.{State}
 use Rattle.hp_machine.specs.declared.touch.TouchPhase.{TouchPhase}
 use Rattle.hp_machine.specs.declared.touch.TouchPhase.TheVariants as touch
@@ -13,7 +12,6 @@ use Rattle.hp_machine.specs.declared.truncate.TruncatePhase.{TruncatePhase}
 use Rattle.hp_machine.specs.declared.truncate.TruncatePhase.TheVariants as truncate
 use Rattle.hp_machine.specs.declared.call.Call.{Call}
 use Rattle.hp_machine.specs.declared.call.Call.TheVariants as call
-use Rattle.hp_machine.specs.declared.outcome.Outcome.{Outcome}
 
 -- another name for each frame, and the way back; a number of which there is no frame keeps its own
 pub record Renaming (frames : ℕ) : Type 0 where
@@ -70,8 +68,3 @@ renamed r s = record s {
 -- the second state is the first with its frames renamed
 abbrev pub Alike : State → State → Type 0
 Alike s n = (r : Renaming s.frames) × (n ≡ renamed r s)
-
--- the events without their outcomes
-abbrev pub events_of : List (Event × Outcome) → List Event
-events_of [] = []
-events_of (e ∷ es) = e.0 ∷ events_of es

@@ -15,7 +15,8 @@ ghost use Rattle.hp_machine.specs.State.{Geometry, State};
 ghost use Rattle.hp_machine.specs.Events.{IsReached, Run, opening};
 ghost use Rattle.hp_machine.specs.declared.outcome.Outcome.{Outcome};
 ghost use Rattle.hp_sequential.specs.Meaning.{CallsAloneMean};
-ghost use Rattle.hp_sequential.specs.Renaming.{Alike, events_of};
+ghost use Rattle.hp_laws.specs.Histories.{events_of};
+ghost use Rattle.hp_sequential.specs.Renaming.{Alike};
 
 /// Frames don't show: two runs of one pool with the same events, resizes among them, have the same
 /// outcomes, and their states are equal up to a renaming of the frames that there are then.

@@ -1,5 +1,5 @@
 -- Where no task has a call in flight none is counted, so that the core can be copied.
-use Rattle.std.proofs.Common.{◌≡◌, ℕ, ◌≤◌, Bool, true, false, Option, Some, None, IsSome, is_some, List, refl, sym, ap, ◌∙◌}
+use Rattle.std.proofs.Common.{◌≡◌, ℕ, ◌≤◌, Bool, true, false, Option, IsSome, is_some, List, refl, sym, ap, ◌∙◌}
 use Rattle.std.proofs.Common.{arith}
 use Rattle.std.specs.Prelude.{◌||◌}
 use Rattle.std.specs.Option.{option_map}
@@ -10,14 +10,9 @@ use Rattle.hp_laws.specs.Laws.{CallersLive}
 use Rattle.hp_core.specs.Readers.{calls_of, config_of, phase_of}
 use Rattle.hp_core.specs.Runs.{IsOfConfig}
 use Rattle.hp_core.specs.State.{CoreState, as_state}
-use Rattle.hp_core.proofs.InFlight.{none_counts}
+use Rattle.hp_core.proofs.InFlight.{none_counts, some_of}
 use Rattle.hp_shared.specs.Cutting.{NoneInFlight, is_seat_in_call}
 use Rattle.hp_shared.specs.States.{SeatState}
-
--- the call that is there
-some_of : (o : Option Call) → IsSome o → (c : Call) × (o ≡ Some c)
-some_of None there = (let no : ◌≡◌ {A = Bool} false true = there in absurd (cc))
-some_of (Some c) there = (c, refl)
 
 -- neither of two
 neither : (a b : Bool) → (a || b) ≡ false → a ≡ false

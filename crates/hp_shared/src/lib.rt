@@ -27,4 +27,4 @@ pub use halting::Halting;
 pub use order::{Listed, interleaved, interleaved_from};
 pub use pool::{Closed, Pool};
 pub use seat::Seat;
-pub use shared::{CloseRefused, Hold, Shared};
+pub use shared::{CloseRefused, Hold, Shared, missing_seat};

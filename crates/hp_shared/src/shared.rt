@@ -267,8 +267,8 @@ fn reopened<L: Ledger>(config: Config, wakings: Vec<Condvar>, kept: KeptOpen<L>)
     }
 }
 
-// The least task without a seat.
-pub(crate) fn missing_seat<L: Ledger>(tasks: u32, seats: &[Seat<L>]) -> Option<Task>
+/// The least task without a seat, if one of the tasks from 1 to `tasks` has none.
+pub fn missing_seat<L: Ledger>(tasks: u32, seats: &[Seat<L>]) -> Option<Task>
     ensures { MatchOption result (AllSeated tasks seats.now) (λ task. LeastMissing tasks seats.now task) }
 {
     for number in 0..tasks {

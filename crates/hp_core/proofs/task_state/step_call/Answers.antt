@@ -42,14 +42,17 @@ returns-in-Some-Exit-clause-row c =
     task_state_row _ _ _ _ _ _ _ _ _ _ (sym c.take.ensures.value ∙ c.in-Some-Exit.is ∙ ap (λ it. Some it) c.in-Some-Exit.field-0-is)
     c.is_killed-killed.ensures (exit_row _ _ _ _ _ _ _ _ _ c.settle-in-Some-Exit.ensures.call c.step_exit-turn.ensures.row)
 
-pub returns-in-Some-Punch-clause-capacity : goal.returns-in-Some-Punch-clause-capacity
-returns-in-Some-Punch-clause-capacity c =
-    λ no. c.step_punch.ensures.capacity
-    (λ yes. no (
-      yes.0,
-      task_state_wants (view c.args.parts.now) c.args.task c.args.task_state.now.call (call.Punch c.in-Some-Punch.phase)
-          (sym c.take.ensures.value ∙ c.in-Some-Punch.is ∙ ap (λ it. Some it) c.in-Some-Punch.field-0-is) yes.1,
-    ))
+pub returns-in-Some-Punch-clause-memory : goal.returns-in-Some-Punch-clause-memory
+returns-in-Some-Punch-clause-memory c =
+    record {
+      sizes = c.step_punch.ensures.memory.sizes;
+      capacity = λ no. c.step_punch.ensures.memory.capacity
+          (λ yes. no (
+            yes.0,
+            task_state_wants (view c.args.parts.now) c.args.task c.args.task_state.now.call (call.Punch c.in-Some-Punch.phase)
+                (sym c.take.ensures.value ∙ c.in-Some-Punch.is ∙ ap (λ it. Some it) c.in-Some-Punch.field-0-is) yes.1,
+          ));
+    }
 
 pub returns-in-Some-Touch-clause-blocked : goal.returns-in-Some-Touch-clause-blocked
 returns-in-Some-Touch-clause-blocked c =

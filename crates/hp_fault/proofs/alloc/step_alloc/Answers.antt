@@ -1,8 +1,8 @@
 use Rattle.hp_parts.proofs.Carrying.{ok_kept}
 use Rattle.hp_fault.proofs.alloc.step_alloc.Goals as goal
 
-pub returns-in-Committed-clause-capacity : goal.returns-in-Committed-clause-capacity
-returns-in-Committed-clause-capacity c = rw c.in-Committed.is c.from_committed.ensures.capacity
+pub returns-in-Committed-clause-memory : goal.returns-in-Committed-clause-memory
+returns-in-Committed-clause-memory c = rw c.in-Committed.is c.from_committed.ensures.memory
 
 pub returns-in-Missing-clause-row : goal.returns-in-Missing-clause-row
 returns-in-Missing-clause-row c =

@@ -1,12 +1,14 @@
-//! The page cache of a file.
+//! The pages of a file: which of its indices have one, and in which frame (Linux: the page cache of an inode, `i_pages`).
+//! Each index lies below `LIMIT`; whether one is reserved, and who else owns a frame, a cache doesn't know.
 ghost use Rattle.std.specs.Prelude.{◌≡◌, ◌<◌, ◌≤◌, OnOk, OnErr, IfOk, Some, None, IsSome, is_some, All};
 ghost use Rattle.std.specs.FinMap as map;
 ghost use Rattle.hp_base.specs.Indices.{count_below};
 ghost use Rattle.hp_base.specs.Pages.{IsPagesEnd};
 ghost use Rattle.hp_chunks.specs.Framed.{no_chunks, NoMoreChunks};
 
+use crate::chunk::PLACES;
+use crate::frame_map::FrameMap;
 use hp_base::{Frame, Index, LIMIT};
-use hp_chunks::{FrameMap, PLACES};
 use std::alloc::{AllocError, Global};
 use std::marker::Model;
 
@@ -20,7 +22,7 @@ pub struct PageCache {
 }
 
 impl Model for PageCache {
-    ghost use Rattle.hp_cache.specs.Cached.{Cached, cached_code};
+    ghost use Rattle.hp_chunks.specs.Cached.{Cached, cached_code};
 
     ghost Value = { Cached };
 
