@@ -1,5 +1,4 @@
 pub mod Claimed
-pub mod Counting
 pub mod Awaiting
 pub mod Inverse
 pub mod OneLine

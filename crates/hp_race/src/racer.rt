@@ -1,15 +1,16 @@
 //! A task's place in a race: its seat, and the calls that it is to make.
-ghost use Rattle.std.specs.Prelude.{◌≡◌, ◌+◌, Bool, IfOk, OnOk, All, true, false, length, nat_lt, [], MatchBool};
+ghost use Rattle.std.specs.Prelude.{◌≡◌, ◌+◌, Bool, IfOk, IfSome, None, OnOk, All, true, false, length, nat_lt, [], MatchBool};
 ghost use Rattle.std.specs.List.{list_any};
 ghost use Rattle.hp_text.specs.Scripts.{calls_of};
 ghost use Rattle.hp_machine.specs.Events.{is_exit};
 ghost use Rattle.hp_race.specs.Calls.{CallEndsBy, EndsBy, MayKill, is_mortal, may_end};
 ghost use Rattle.hp_race.specs.Racers.{HasMadeIn, HasRun, HasStrayedIn, IsNew, IsSet, SomeStrayedIn, calls_in, is_gone};
+ghost use Rattle.hp_race.specs.Waiting.{AreNeeds};
 
 use crate::call_range::CallRange;
 use crate::chances::{Chances, Draws, stream};
 use crate::starting_line::{Course, StartingLine};
-use crate::waiting::{Board, Need, Turns, needs_of, own_needs};
+use crate::waiting::{Board, Turns};
 use hp_base::{Event, Op};
 use hp_core::Refusal;
 use hp_shared::{CallFault, Halting, Hold, Reply, Seat, Shared, call};
@@ -43,7 +44,6 @@ pub(crate) struct Track<'a, L: Ledger> {
 pub(crate) struct Racer<L: Ledger> {
     pub(crate) seat: Seat<L>,
     pub(crate) calls: Vec<Op>,
-    pub(crate) needs: Vec<Need>,
     pub(crate) ending: Ending,
 }
 
@@ -161,11 +161,10 @@ fn run_racer<L: Ledger, R: Wait>(
     let Racer {
         seat,
         calls,
-        needs,
         ending,
     } = racer;
     let task = seat.task();
-    let turns = starting_line.line_up(task, needs.as_slice(), call_range.from);
+    let turns = starting_line.line_up(task, call_range.from);
     let course = Course {
         draws: Draws::new(chances, stream(call_range, task)),
         config: script.config,
@@ -188,7 +187,6 @@ fn set_racers<L: Ledger>(
     ensures idle { IfOk result (λ set. (mortal : Bool) → All (HasMadeIn mortal script.now call_range) set.1.items) }
     ensures count { IfOk result (λ set. length set.0.items + length set.1.items ≡ length seats.items) }
 {
-    let needs = needs_of(alloc, script)?;
     let mut racers = Vec::new(alloc);
     let mut idle = Vec::new(alloc);
     for seat in seats {
@@ -196,12 +194,10 @@ fn set_racers<L: Ledger>(
         if calls.len() <= call_range.from {
             idle.push(seat)?;
         } else {
-            let needs = own_needs(alloc, needs.as_slice(), seat.task())?;
             let ending = Ending::Memory;
             racers.push(Racer {
                 seat,
                 calls,
-                needs,
                 ending,
             })?;
         }
@@ -274,7 +270,6 @@ fn gather_seats<L: Ledger>(
         let Racer {
             seat,
             calls: _,
-            needs: _,
             ending,
         } = racer;
         match ending {
@@ -292,11 +287,14 @@ fn board_of(
     alloc: Global,
     script: &Script,
     call_range: CallRange,
-) -> Result<Option<Board>, AllocError> {
+) -> Result<Option<Board>, AllocError>
+    ensures needs { IfOk result (λ board. IfSome board (λ board. AreNeeds script.now board.needs.items)) }
+    ensures none { IfOk result (λ board. board ≡ None → script.now.waits.items ≡ []) }
+{
     if script.waits.is_empty() {
         return Ok(None);
     }
-    let board = Board::new(alloc, script.config.tasks, call_range.from)?;
+    let board = Board::new(alloc, script, call_range.from)?;
     Ok(Some(board))
 }
 

@@ -1,6 +1,6 @@
 use Rattle.std.proofs.Common.{◌-◌, length}
-use Rattle.hp_explore.proofs.Counting.{Finding}
-use Rattle.hp_explore.proofs.needs.needs_at.Given as goal
+use Rattle.hp_text.proofs.Counting.{Finding}
+use Rattle.hp_text.proofs.needs.needs_at.Given as goal
 
 abbrev pub invariant-loop-next : goal.invariant-loop-next
 invariant-loop-next l = Finding l.waits l.call l.counts l.next l.needs.items

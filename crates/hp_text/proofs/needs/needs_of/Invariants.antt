@@ -1,7 +1,7 @@
 use Rattle.std.proofs.Common.{◌≡◌, ◌-◌, map}
 use Rattle.std.specs.List.{range_with_len}
-use Rattle.hp_explore.specs.Schedule.{task_needs}
-use Rattle.hp_explore.proofs.needs.needs_of.Given as goal
+use Rattle.hp_text.specs.Needs.{task_needs}
+use Rattle.hp_text.proofs.needs.needs_of.Given as goal
 
 abbrev pub invariant-loop-task : goal.invariant-loop-task
 invariant-loop-task l =

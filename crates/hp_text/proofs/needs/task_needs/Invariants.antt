@@ -1,7 +1,7 @@
 use Rattle.std.proofs.Common.{◌≡◌, length, map, take}
-use Rattle.hp_explore.specs.Schedule.{needs_at, places_from}
-use Rattle.hp_explore.specs.CountedCalls.{AreCounts, SplitsAt}
-use Rattle.hp_explore.proofs.needs.needs_of_task.Given as goal
+use Rattle.hp_text.specs.Needs.{needs_at, places_from}
+use Rattle.hp_text.specs.CountedCalls.{AreCounts, SplitsAt}
+use Rattle.hp_text.proofs.needs.task_needs.Given as goal
 
 abbrev pub invariant-loop-call : goal.invariant-loop-call
 invariant-loop-call l = record {

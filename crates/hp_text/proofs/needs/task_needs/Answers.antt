@@ -3,11 +3,11 @@ use Rattle.std.proofs.Common.{◌≡◌, ◌<◌, ◌+◌, ℕ, List, [], ◌∷
 use Rattle.std.specs.Prelude.{Bool, true, false, ◌==◌, if◌then◌else◌}
 use Rattle.std.proofs.lemmas.List.{append-nil, map_push}
 use Rattle.hp_text.specs.declared.script.Wait.{Wait}
-use Rattle.hp_explore.specs.Schedule.{is_wait_of, needs_at}
-use Rattle.hp_explore.specs.CountedCalls.{AreCounts, SplitsAt, counted_need}
-use Rattle.hp_explore.proofs.Counting.{counted_is, counts_at, counts_long, few_at, needs_more, front_few}
-use Rattle.hp_explore.proofs.needs.needs_of_task.Goals as goal
-use Rattle.hp_explore.proofs.needs.needs_of_task.Goals.{then-eq+in_ok-push, else-eq}
+use Rattle.hp_text.specs.Needs.{is_wait_of, needs_at}
+use Rattle.hp_text.specs.CountedCalls.{AreCounts, SplitsAt, counted_need}
+use Rattle.hp_text.proofs.Counting.{counted_is, counts_at, counts_long, few_at, needs_more, front_few}
+use Rattle.hp_text.proofs.needs.task_needs.Goals as goal
+use Rattle.hp_text.proofs.needs.task_needs.Goals.{then-eq+in_ok-push, else-eq}
 
 pub count_call-requires : goal.count_call-requires
 count_call-requires c =

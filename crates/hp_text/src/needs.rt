@@ -2,18 +2,20 @@
 ghost use Rattle.std.specs.Prelude.{◌≡◌, ◌+◌, ◌-◌, ◌<◌, ◌≤◌, ◌^◌, ℕ, IfOk, filter, length, map, slice_index};
 ghost use Rattle.std.specs.List.Sorted.{IsNonDecreasingBy};
 ghost use Rattle.hp_text.specs.Scripts.{calls_of};
-ghost use Rattle.hp_explore.specs.Schedule.{is_wait_of, needs_of, task_needs};
-ghost use Rattle.hp_explore.specs.CountedCalls.{SplitsAt, counted_need, counts_with};
+ghost use Rattle.hp_text.specs.Needs.{is_wait_of, needs_of, task_needs};
+ghost use Rattle.hp_text.specs.CountedCalls.{SplitsAt, counted_need, counts_with};
 
+use crate::script::{Script, Wait};
 use hp_base::Task;
-use hp_text::{Script, Wait};
 use std::alloc::{AllocError, Global};
 
 /// What a call waits for: the task at this place, from 0, is to have ended so many calls.
 #[derive(Clone, Copy, Debug, PartialEq, Eq)]
-pub(crate) struct Need {
-    pub(crate) place: u32,
-    pub(crate) calls: usize,
+pub struct Need {
+    /// The task's number less one: its place among those of the pool.
+    pub place: u32,
+    /// So many of its calls.
+    pub calls: usize,
 }
 
 /// What the call at this place waits for, and how many waits stand up to it. So many calls of each task stand before the call.
@@ -56,7 +58,7 @@ fn count_call(counts: &mut Vec<usize>, task: Task)
 }
 
 /// What each call of the task waits for.
-fn needs_of_task(alloc: Global, script: &Script, task: Task) -> Result<Vec<Vec<Need>>, AllocError>
+pub fn task_needs(alloc: Global, script: &Script, task: Task) -> Result<Vec<Vec<Need>>, AllocError>
     ensures { IfOk result (λ needs. map (λ v. v.items) needs.items
         ≡ task_needs script.now.calls.items script.now.waits.items script.now.config.tasks task) }
 {
@@ -82,7 +84,7 @@ fn needs_of_task(alloc: Global, script: &Script, task: Task) -> Result<Vec<Vec<N
 }
 
 /// What each call of each task waits for, from task 1; where no call waits, nothing.
-pub(crate) fn needs_of(alloc: Global, script: &Script) -> Result<Vec<Vec<Vec<Need>>>, AllocError>
+pub fn needs_of(alloc: Global, script: &Script) -> Result<Vec<Vec<Vec<Need>>>, AllocError>
     ensures { IfOk result (λ v. map (λ queue. map (λ needs. needs.items) queue.items) v.items
         ≡ needs_of script.now.calls.items script.now.waits.items script.now.config.tasks) }
 {
@@ -91,7 +93,7 @@ pub(crate) fn needs_of(alloc: Global, script: &Script) -> Result<Vec<Vec<Vec<Nee
         return Ok(needs);
     }
     for task in 1..script.config.tasks + 1 {
-        needs.push(needs_of_task(alloc, script, Task::new(task))?)?;
+        needs.push(task_needs(alloc, script, Task::new(task))?)?;
     }
     Ok(needs)
 }

@@ -3,7 +3,7 @@ use Rattle.std.specs.Prelude.{◌≡◌, ◌+◌, ◌-◌, ◌<◌, ◌≤◌, �
 use Rattle.hp_base.specs.declared.event.Op.{Op}
 use Rattle.hp_text.specs.Scripts.{calls_of}
 use Rattle.hp_text.specs.declared.script.Wait.{Wait}
-use Rattle.hp_explore.specs.declared.needs.Need.{Need}
+use Rattle.hp_text.specs.declared.needs.Need.{Need}
 
 -- so many calls of each task stand on these lines
 abbrev pub AreCounts : List (ℕ × Op) → (counts : List ℕ) → Type 0

@@ -10,9 +10,9 @@ use Rattle.hp_base.proofs.Puts.{same_or_other}
 use Rattle.hp_base.specs.declared.event.Op.{Op}
 use Rattle.hp_text.specs.Scripts.{calls_of}
 use Rattle.hp_text.specs.declared.script.Wait.{Wait}
-use Rattle.hp_explore.specs.declared.needs.Need.{Need}
-use Rattle.hp_explore.specs.Schedule.{places_from, is_wait_of, need_of, needs_at}
-use Rattle.hp_explore.specs.CountedCalls.{AreCounts, SplitsAt, counted_need, counts_with}
+use Rattle.hp_text.specs.declared.needs.Need.{Need}
+use Rattle.hp_text.specs.Needs.{places_from, is_wait_of, need_of, needs_at}
+use Rattle.hp_text.specs.CountedCalls.{AreCounts, SplitsAt, counted_need, counts_with}
 
 abbrev Call : Type 0
 Call = ℕ × Op

@@ -1,11 +1,11 @@
 use Rattle.std.proofs.Common.{◌≡◌, ◌<◌, ap, ◌∙◌, arith, length, inl, inr}
 use Rattle.std.specs.Prelude.{slice_index_or}
 use Rattle.hp_text.specs.declared.script.Wait.{Wait}
-use Rattle.hp_explore.proofs.Counting.{finds_none, finds_on, finds_all, same_at, pushes, skips}
-use Rattle.hp_explore.proofs.needs.needs_at.Goals as goal
-use Rattle.hp_explore.proofs.needs.needs_at.Goals.{then-loop-next-test+else-waits-next, else-loop-next-test}
-use Rattle.hp_explore.proofs.needs.needs_at.Goals.{then-task-ge1+then-task-counts+in_ok-push, else-task-ge1}
-use Rattle.hp_explore.proofs.needs.needs_at.Goals.{else-task-ge1-via-then-task-ge1+else-task-counts, else-task-ge1-via-else-task-ge1}
+use Rattle.hp_text.proofs.Counting.{finds_none, finds_on, finds_all, same_at, pushes, skips}
+use Rattle.hp_text.proofs.needs.needs_at.Goals as goal
+use Rattle.hp_text.proofs.needs.needs_at.Goals.{then-loop-next-test+else-waits-next, else-loop-next-test}
+use Rattle.hp_text.proofs.needs.needs_at.Goals.{then-task-ge1+then-task-counts+in_ok-push, else-task-ge1}
+use Rattle.hp_text.proofs.needs.needs_at.Goals.{else-task-ge1-via-then-task-ge1+else-task-counts, else-task-ge1-via-else-task-ge1}
 
 pub loop-next-init : goal.loop-next-init
 loop-next-init c =
