@@ -1,14 +1,20 @@
 -- What calls of a race wait for, and how many each task has ended.
-use Rattle.std.specs.Prelude.{◌≡◌, ◌-◌, ◌&&◌, ℕ, Bool, List, [], length, map, nat_le, if◌then◌else◌, slice_index_or, slice_set}
+use Rattle.std.specs.Prelude.{◌≡◌, ◌-◌, ◌&&◌, ℕ, Bool, List, [], Option, None, Some, length, map, nat_le, if◌then◌else◌, slice_index_or, slice_set}
 use Rattle.std.specs.Global.{Vec}
 use Rattle.hp_text.specs.Needs.{needs_of}
 use Rattle.hp_text.specs.declared.needs.Need.{Need}
 use Rattle.hp_text.specs.declared.script.Script.{Script}
+use Rattle.hp_race.specs.declared.waiting.Board.{Board}
 
 -- these are what the calls of the script wait for
 abbrev pub AreNeeds : Script → List (Vec (Vec Need)) → Type 0
 AreNeeds script needs =
     map (λ calls. map (λ needs. needs.items) calls.items) needs ≡ needs_of script.calls.items script.waits.items script.config.tasks
+
+-- where calls of the script wait there is a board, which knows for what
+abbrev pub IsBoardOf : Script → Option Board → Type 0
+IsBoardOf script None = script.waits.items ≡ []
+IsBoardOf script (Some board) = AreNeeds script board.needs.items
 
 -- what the task's call of that number waits for
 abbrev pub needs_at : List (Vec (Vec Need)) → (task number : ℕ) → List Need

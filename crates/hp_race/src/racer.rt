@@ -1,11 +1,11 @@
 //! A task's place in a race: its seat, and the calls that it is to make.
-ghost use Rattle.std.specs.Prelude.{◌≡◌, ◌+◌, Bool, IfOk, IfSome, None, OnOk, All, true, false, length, nat_lt, [], MatchBool};
+ghost use Rattle.std.specs.Prelude.{◌≡◌, ◌+◌, Bool, IfOk, OnOk, All, true, false, length, nat_lt, [], MatchBool};
 ghost use Rattle.std.specs.List.{list_any};
 ghost use Rattle.hp_text.specs.Scripts.{calls_of};
 ghost use Rattle.hp_machine.specs.Events.{is_exit};
 ghost use Rattle.hp_race.specs.Calls.{CallEndsBy, EndsBy, MayKill, is_mortal, may_end};
 ghost use Rattle.hp_race.specs.Racers.{HasMadeIn, HasRun, HasStrayedIn, IsNew, IsSet, SomeStrayedIn, calls_in, is_gone};
-ghost use Rattle.hp_race.specs.Waiting.{AreNeeds};
+ghost use Rattle.hp_race.specs.Waiting.{IsBoardOf};
 
 use crate::call_range::CallRange;
 use crate::chances::{Chances, Draws, stream};
@@ -155,7 +155,8 @@ fn run_racer<L: Ledger, R: Wait>(
     chances: Chances,
     racer: &mut Racer<L>,
 )
-    requires { IsSet script.now racer.old.calls.items racer.old.seat }
+    requires set { IsSet script.now racer.old.calls.items racer.old.seat }
+    requires board { IsBoardOf script.now starting_line.now.board }
     ensures { HasRun (is_mortal chances) script.now call_range racer.new.ending racer.new.seat }
 {
     let Racer {
@@ -215,7 +216,8 @@ fn run_racers<L: Ledger + Send + Sync, R: Threads + Wait + Sync>(
     call_range: CallRange,
     racers: &mut [Racer<L>],
 )
-    requires { All (λ d. IsSet script.now d.calls.items d.seat) racers.old }
+    requires set { All (λ d. IsSet script.now d.calls.items d.seat) racers.old }
+    requires board { IsBoardOf script.now board }
     ensures ran { All (λ d. HasRun (is_mortal track.now.chances) script.now call_range d.ending d.seat) racers.new }
     ensures count { length racers.new ≡ length racers.old }
 {
@@ -230,7 +232,8 @@ fn run_racers<L: Ledger + Send + Sync, R: Threads + Wait + Sync>(
         racers,
         count,
         &|_: usize, racer: &mut Racer<L>|
-            requires { IsSet script.now racer.old.calls.items racer.old.seat }
+            requires set { IsSet script.now racer.old.calls.items racer.old.seat }
+            requires board { IsBoardOf script.now starting_line.board }
             ensures { HasRun (is_mortal chances) script.entry.now call_range racer.new.ending racer.new.seat }
         {
             run_racer(
@@ -288,8 +291,7 @@ fn board_of(
     script: &Script,
     call_range: CallRange,
 ) -> Result<Option<Board>, AllocError>
-    ensures needs { IfOk result (λ board. IfSome board (λ board. AreNeeds script.now board.needs.items)) }
-    ensures none { IfOk result (λ board. board ≡ None → script.now.waits.items ≡ []) }
+    ensures { IfOk result (IsBoardOf script.now) }
 {
     if script.waits.is_empty() {
         return Ok(None);
