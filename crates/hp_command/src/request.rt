@@ -1,8 +1,9 @@
 //! What the words of a command line ask for.
 use hp_explain::View;
 use hp_explore::{Chances, Exploration};
-use hp_hunt::{Condition, Hunt, Survey};
+use hp_hunt::{Condition, Hunt};
 use hp_race as race;
+use hp_summary::Survey;
 use std::num::NonZeroU32;
 
 /// Which run of a script is written as a trace.

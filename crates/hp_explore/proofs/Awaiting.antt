@@ -14,8 +14,9 @@ use Rattle.hp_text.specs.declared.script.Wait.{Wait}
 use Rattle.std.proofs.lemmas.List.{length-replicate}
 use Rattle.hp_explore.specs.declared.turned.Turned.{Turned}
 use Rattle.hp_explore.proofs.Others.{long_after}
-use Rattle.hp_explore.specs.declared.needs.Need.{Need}
-use Rattle.hp_explore.specs.Schedule.{Plan, World, IsPlan, CanTurn, places_from, is_wait_of, need_of, needs_at, task_needs, needs_of}
+use Rattle.hp_text.specs.declared.needs.Need.{Need}
+use Rattle.hp_explore.specs.Schedule.{Plan, World, IsPlan, CanTurn}
+use Rattle.hp_text.specs.Needs.{places_from, is_wait_of, need_of, needs_at, task_needs, needs_of}
 use Rattle.hp_explore.specs.Schedule.{queues_of, in_call, next_call, next_needs, ended, is_over, may_begin, IsStart, Turn, plan_of}
 
 abbrev Call : Type 0

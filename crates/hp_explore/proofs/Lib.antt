@@ -1,11 +1,8 @@
 pub mod Claimed
-pub mod Collected
-pub mod Counting
 pub mod Awaiting
 pub mod Inverse
 pub mod OneLine
 pub mod Others
-pub mod Pieces
 pub mod Retained
 pub mod Runnable
 pub mod Runs

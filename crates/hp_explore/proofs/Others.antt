@@ -35,7 +35,7 @@ use Rattle.hp_core.specs.State.{CoreState, as_state, task_state_at, calls_of, li
 use Rattle.hp_core.specs.Waiting.{WaitsFor}
 use Rattle.hp_core.proofs.Growing.{HeldOn, held_same}
 use Rattle.hp_core.proofs.Holds.{HoldOn, blocker, holds_on_all, lock_kept, names_nobody, slot_kept, waits_for_nobody}
-use Rattle.hp_explore.specs.declared.needs.Need.{Need}
+use Rattle.hp_text.specs.declared.needs.Need.{Need}
 use Rattle.hp_explore.specs.Schedule.{Plan, World, Choice, CanTurn, AreRunnable, AreRunnableOf, in_call, next_call, word, drawn}
 use Rattle.hp_explore.specs.Schedule.{may_begin, next_needs, is_over}
 use Rattle.hp_explore.specs.Schedule.{call_choice, kill_choice, step_choice, task_choice}

@@ -6,4 +6,3 @@ pub mod RunLines
 pub mod Schedule
 pub mod SoFar
 pub mod Text
-pub mod CountedCalls

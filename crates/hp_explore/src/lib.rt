@@ -12,7 +12,6 @@ mod exploration;
 mod exploring;
 mod laws;
 mod line;
-mod needs;
 mod plan;
 mod remainders;
 mod run_lines;

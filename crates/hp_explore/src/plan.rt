@@ -3,10 +3,9 @@ ghost use Rattle.std.specs.Prelude.{◌≡◌, ◌+◌, ◌-◌, ◌<◌, ◌≤
 ghost use Rattle.hp_text.specs.Scripts.{calls_of};
 ghost use Rattle.hp_explore.specs.Schedule.{plan_of, queues_of};
 
-use crate::needs::{Need, needs_of};
 use crate::remainders::Remainders;
 use hp_base::{Op, Task};
-use hp_text::Script;
+use hp_text::{Need, Script, needs_of};
 use std::alloc::{AllocError, Global};
 use std::marker::Model;
 

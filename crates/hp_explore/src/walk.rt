@@ -16,14 +16,13 @@ ghost use Rattle.hp_explore.specs.CanNow.{can_now};
 ghost use Rattle.hp_explore.specs.Explored.{EndsWell, IsClean, idle_finish, last_finish, line_of};
 
 use crate::line::{Finish, RunLine};
-use crate::needs::Need;
 use crate::plan::Plan;
 use crate::runnable_tasks::RunnableTasks;
 use crate::turned::Turned;
 use hp_audit::{Finding, audit};
 use hp_base::{Event, Op, Task};
 use hp_core::{Answer, Core, Life, Outcome, Phase};
-use hp_text::Script;
+use hp_text::{Need, Script};
 use hp_watch::{can_leave, may_pass, may_wait, no_calls, phase_after};
 use rand_core::SeedableRng;
 use rand_core::utils::NextWord;

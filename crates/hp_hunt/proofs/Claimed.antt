@@ -1,52 +1,46 @@
 -- What workers found of runs.
-use Rattle.std.proofs.Common.{◌≡◌, ℕ, zero, suc, ◌+◌, ◌<◌, ◌≤◌, List, length, refl, sym, ap, subst, ◌∙◌, arith, inl, inr}
-use Rattle.std.specs.Prelude.{◌⊎◌, Bool, true, false, MatchBool, Result, IfOk, replicate, slice_index_or, slice_set}
-use Rattle.std.proofs.lemmas.List.{get_or-set_other, length-replicate, length-set}
+use Rattle.std.proofs.Common.{◌≡◌, ℕ, zero, suc, ◌+◌, ◌<◌, ◌≤◌, List, length, sym, ap, subst, ◌∙◌, arith, inl, inr}
+use Rattle.std.specs.Prelude.{◌⊎◌, Bool, true, false, MatchBool, Option, None, Some}
+use Rattle.std.specs.Global.{Vec}
 use Rattle.hp_base.proofs.Puts.{same_or_other}
 use Rattle.hp_base.specs.Text.{sizes}
 use Rattle.hp_base.specs.declared.event.Event.{Event}
 use Rattle.hp_explore.specs.Schedule.{Plan, plan_of}
 use Rattle.hp_text.specs.declared.script.Script.{Script}
-use Rattle.hp_hunt.specs.Claims.{AllMiss, AreMarks, FirstsMiss, IsFirstOf, IsMissed, JudgesRun, MeetsAt, MissesAt}
+use Rattle.hp_hunt.specs.Claims.{AllMiss, FirstsMiss, IsFirstOf, MeetsAt, MissesAt, TellsOf}
 use Rattle.hp_hunt.specs.Hunting.{IsFound, NoneMeets, RunMeets, RunMisses}
 use Rattle.hp_hunt.specs.declared.claims.Part.{Part}
 use Rattle.hp_hunt.specs.declared.condition.Condition.{Condition}
 use Rattle.hp_hunt.specs.declared.finding.Found.{Found}
 use Rattle.hp_hunt.specs.declared.finding.Hunt.{Hunt}
 
-pub judged_at : {E : Type 0} (p : Part) (place : ℕ) (events : List Event) (r : Result Bool E)
-    → IfOk r (λ met. MatchBool met
-    (RunMeets p.script.now p.seed p.plan.now.deny p.plan.now.kill p.conditions.now (p.first + place) events)
-    (RunMisses p.script.now p.seed p.plan.now.deny p.plan.now.kill p.conditions.now (p.first + place)))
-    → IfOk r (λ met. JudgesRun p place met events)
-unfolding MeetsAt MissesAt
-judged_at p place events r h = h
+-- a run that meets all conditions is told by its events
+pub told_met : (p : Part) (place : ℕ) (met : Bool) (events : Vec Event) → MatchBool met
+    (RunMeets p.script.now p.seed p.plan.now.deny p.plan.now.kill p.conditions.now (p.first + place) events.items)
+    (RunMisses p.script.now p.seed p.plan.now.deny p.plan.now.kill p.conditions.now (p.first + place))
+    → length events.items ≤ 1000000 → met ≡ true → TellsOf p place (Some events)
+unfolding TellsOf MeetsAt
+told_met p place true events judged few is = (judged, few)
+told_met p place false events judged few is = (let bad : ⊥ = cc in absurd bad)
 
--- nothing is marked yet
-pub none_marked : (p : Part) (marks : List Bool) → marks ≡ replicate p.count false → AreMarks p marks
-none_marked p marks is =
-    record {
-      all = ap (λ (x : List Bool). length x) is ∙ length-replicate {A = Bool} p.count false;
-      own = λ k set. let bad : true ≡ false = sym set ∙ ap (λ (x : List Bool). slice_index_or x k false) is ∙ unset p.count k in
-          let never : ⊥ = cc in absurd never;
-    }
-  where
-    unset : (n k : ℕ) → slice_index_or (replicate n false) k false ≡ false
-    unset zero k = refl
-    unset (suc n) zero = refl
-    unset (suc n) (suc k) = unset n k
+-- and one that misses a condition by none
+pub told_missed : (p : Part) (place : ℕ) (met : Bool) (events : Vec Event) → MatchBool met
+    (RunMeets p.script.now p.seed p.plan.now.deny p.plan.now.kill p.conditions.now (p.first + place) events.items)
+    (RunMisses p.script.now p.seed p.plan.now.deny p.plan.now.kill p.conditions.now (p.first + place))
+    → met ≡ false → TellsOf p place None
+unfolding TellsOf MissesAt
+told_missed p place true events judged is = (let bad : ⊥ = cc in absurd bad)
+told_missed p place false events judged is = judged
 
--- a run that misses is marked
-pub mark_set : (p : Part) (marks : List Bool) (place : ℕ) → AreMarks p marks → IsMissed p place
-    → AreMarks p (slice_set marks place true)
-mark_set p marks place h its =
-    record {
-      all = length-set marks place true ∙ h.all;
-      own = λ k set. elim (same_or_other k place) [
-        | inl same ↦ subst (MissesAt p) (sym same) its.misses
-        | inr other ↦ h.own k (sym (get_or-set_other marks place k true false other) ∙ set)
-      ];
-    }
+pub tells_missed : (p : Part) (place : ℕ) (told : Option (Vec Event)) → TellsOf p place told → told ≡ None → MissesAt p place
+unfolding TellsOf
+tells_missed p place None misses is = misses
+tells_missed p place (Some events) tells is = (let bad : ⊥ = cc in absurd bad)
+
+pub tells_met : (p : Part) (place : ℕ) (told : Option (Vec Event)) (events : Vec Event) → TellsOf p place told → told ≡ Some events
+    → MeetsAt p place events.items × (length events.items ≤ 1000000)
+unfolding TellsOf
+tells_met p place told events tells is = subst (TellsOf p place) is tells
 
 -- one run more misses
 pub one_more_misses : (p : Part) (n : ℕ) → FirstsMiss p n → MissesAt p n → FirstsMiss p (n + 1)

@@ -1,6 +1,6 @@
 -- Runs that were explored, and what the watches say of them.
-use Rattle.std.proofs.Common.{◌≡◌, ℕ, List}
-use Rattle.std.specs.Prelude.{Bool, true, false, MatchBool, Option, None, Some}
+use Rattle.std.proofs.Common.{ℕ, List}
+use Rattle.std.specs.Prelude.{Bool, true, false, MatchBool}
 use Rattle.hp_base.specs.declared.event.Event.{Event}
 use Rattle.hp_explore.specs.Explored.{IsExplored}
 use Rattle.hp_explore.specs.declared.line.RunLine.{RunLine}
@@ -8,10 +8,6 @@ use Rattle.hp_text.specs.declared.script.Script.{Script}
 use Rattle.hp_hunt.specs.Conditions.{SomeRunMeets, SomeRunMisses}
 use Rattle.hp_hunt.specs.Hunting.{RunMeets, RunMisses}
 use Rattle.hp_hunt.specs.declared.condition.Condition.{Condition}
-
-pub none_told : {A : Type 0} (o : Option A) → ((x : A) → o ≡ Some x → ⊥) → o ≡ None
-none_told None not = λ i. None
-none_told (Some t) not = absurd (not t (λ i. Some t))
 
 -- a run that was explored is judged by its own moments
 pub run_judged : (script : Script) (seed deny kill run : ℕ) (conditions : List Condition) (events : List Event) (met : Bool)

@@ -1,9 +1,5 @@
 pub mod Claimed
-pub mod Counted
 pub mod Cuts
 pub mod Explored
-pub mod Gathered
-pub mod Laid
 pub mod Lefts
-pub mod Noted
 pub mod Watches

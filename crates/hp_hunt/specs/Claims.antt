@@ -1,5 +1,6 @@
 -- Runs are explored each by itself, by whoever claims it.
-use Rattle.std.specs.Prelude.{◌≡◌, ◌+◌, ◌<◌, ◌≤◌, ◌^◌, ℕ, Bool, true, false, List, MatchBool, slice_index_or, length, All}
+use Rattle.std.specs.Prelude.{◌≡◌, ◌+◌, ◌<◌, ◌≤◌, ◌^◌, ℕ, List, Option, None, Some, length}
+use Rattle.std.specs.Global.{Vec}
 use Rattle.hp_base.specs.Text.{sizes}
 use Rattle.hp_base.specs.declared.event.Event.{Event}
 use Rattle.hp_explore.specs.Schedule.{plan_of}
@@ -20,22 +21,10 @@ MissesAt p place = RunMisses p.script.now p.seed p.plan.now.deny p.plan.now.kill
 unfoldable pub MeetsAt : Part → (place : ℕ) → List Event → Type 0
 MeetsAt p place events = RunMeets p.script.now p.seed p.plan.now.deny p.plan.now.kill p.conditions.now (p.first + place) events
 
--- this is known of the run at that place
-abbrev pub JudgesRun : Part → (place : ℕ) → (met : Bool) → List Event → Type 0
-JudgesRun p place met events = MatchBool met (MeetsAt p place events) (MissesAt p place)
-
--- there is a run at that place, and it misses a condition
-pub record IsMissed (p : Part) (place : ℕ) : Type 0 where
-  pub there : place < p.count
-  pub misses : MissesAt p place
-
-abbrev pub AreMissed : Part → List ℕ → Type 0
-AreMissed p places = All (IsMissed p) places
-
--- a mark for each run; a run that is marked misses a condition
-pub record AreMarks (p : Part) (marks : List Bool) : Type 0 where
-  pub all : length marks ≡ p.count
-  pub own : (k : ℕ) → slice_index_or marks k false ≡ true → MissesAt p k
+-- of the run at that place this is told: its events, a million at most, where it meets all conditions, and none where it misses one
+unfoldable pub TellsOf : Part → (place : ℕ) → Option (Vec Event) → Type 0
+TellsOf p place None = MissesAt p place
+TellsOf p place (Some events) = MeetsAt p place events.items × (length events.items ≤ 1000000)
 
 -- so many of the runs, from the first on, miss a condition
 abbrev pub FirstsMiss : Part → (count : ℕ) → Type 0

@@ -10,7 +10,7 @@ use Rattle.hp_machine.specs.declared.outcome.Outcome.TheVariants.{Begun, Moved, 
 use Rattle.hp_core.specs.State.{CoreState}
 use Rattle.hp_core.specs.Readers.{free_of, phase_of, resv_of, used_of}
 use Rattle.hp_core.specs.Waiting.{WaitsFor}
-use Rattle.hp_hunt.specs.Moments.{Moment, IsRunOf, Once, last_of}
+use Rattle.hp_watch.specs.Moments.{Moment, IsRunOf, Once, last_of}
 use Rattle.hp_hunt.specs.declared.condition.AnswerWord.{AnswerWord}
 use Rattle.hp_hunt.specs.declared.condition.AnswerWord.TheVariants as word
 use Rattle.hp_hunt.specs.declared.condition.Condition.{Condition}

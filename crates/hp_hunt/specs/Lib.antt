@@ -1,14 +1,7 @@
 pub mod Claims
 pub mod Conditions
 pub mod Cutting
-pub mod Facts
-pub mod Gathering
 pub mod Hunting
 pub mod Lowering
-pub mod Moments
-pub mod Noting
 pub mod Numbers
-pub mod Phases
-pub mod Summaries
-pub mod SummaryText
 pub mod Watching

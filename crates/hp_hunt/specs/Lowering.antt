@@ -6,7 +6,6 @@ use Rattle.hp_base.specs.declared.event.Event.{Event}
 use Rattle.hp_hunt.specs.Conditions.{SomeRunMisses}
 use Rattle.hp_hunt.specs.Numbers.{number_at, numbers_of, with_number}
 use Rattle.hp_hunt.specs.declared.condition.Condition.{Condition}
-use Rattle.hp_hunt.specs.declared.numbers.Numbers.{Numbers}
 use Rattle.hp_hunt.specs.declared.numbers.Which.{Which}
 
 -- with that number one less, a run of the events misses the conditions; 0 can't be less

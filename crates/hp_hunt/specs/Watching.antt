@@ -1,7 +1,7 @@
 -- What is known of a condition while a run is watched.
 use Rattle.std.specs.Prelude.{◌≡◌, ◌↔◌, ◌+◌, ℕ, min, IsTrue, List, All, map}
 use Rattle.hp_hunt.specs.Conditions.{IsMetAt, calls_begun}
-use Rattle.hp_hunt.specs.Moments.{Moment, Once}
+use Rattle.hp_watch.specs.Moments.{Moment, Once}
 use Rattle.hp_hunt.specs.declared.condition.Condition.{Condition}
 use Rattle.hp_hunt.specs.declared.condition.Condition.TheVariants.{Answer, Blocked, Meet, Final}
 use Rattle.hp_hunt.specs.declared.watching.Watch.{Watch}

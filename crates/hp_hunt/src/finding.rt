@@ -5,12 +5,12 @@ ghost use Rattle.hp_hunt.specs.Hunting.{IsFound, NoneMeets, RunMeets, RunMisses}
 
 use crate::claims::{Part, search_part};
 use crate::condition::Condition;
-use crate::progress::{FIRST_PART, Progress, next_part};
 use crate::watching::{are_met, see_all, watch_all};
 use hp_base::{Answer, Event, Op};
 use hp_core::Outcome;
 use hp_explore::{Chances, Plan, ScheduledRun};
 use hp_text::{ReplayFault, Script, Trace};
+use hp_workers::{FIRST_PART, Progress, next_part};
 use std::alloc::{AllocError, Global};
 use std::sync::atomic::{AtomicU64, Ordering};
 use std::thread::Threads;

@@ -1,16 +1,15 @@
 //! Watches: each looks for one condition, moment by moment.
-ghost use Rattle.std.specs.Prelude.{◌≡◌, ◌↔◌, ◌≤◌, ◌&&◌, ℕ, true, false, List, [], ◌∷◌, Some, IsTrue, IfOk};
-ghost use Rattle.hp_core.specs.Readers.{config_of, phase_of};
+ghost use Rattle.std.specs.Prelude.{◌≡◌, ◌↔◌, true, false, List, [], ◌∷◌, IsTrue, IfOk};
 ghost use Rattle.hp_core.specs.State.{CoreState};
-ghost use Rattle.hp_core.specs.Waiting.{WaitsFor};
 ghost use Rattle.hp_hunt.specs.Conditions.{EndsWith, IsMetAt, IsStepOf, Meets, MeetsAll, is_begin, is_begun};
-ghost use Rattle.hp_hunt.specs.Moments.{Moment, last_of};
+ghost use Rattle.hp_watch.specs.Moments.{Moment, last_of};
 ghost use Rattle.hp_hunt.specs.Watching.{AllKnow, IsCounted, Knows};
 ghost use Rattle.hp_hunt.specs.declared.condition.Condition.{Condition};
 
 use crate::condition::{AnswerWord, Condition, count_of, word_of};
 use hp_base::{Event, Task};
-use hp_core::{Core, Outcome, Phase};
+use hp_core::{Core, Outcome};
+use hp_watch::{is_held_up, stands_at};
 use std::alloc::{AllocError, Global};
 
 /// Whether the event asks for a call of the task.
@@ -48,32 +47,6 @@ fn ends_with(outcome: &Outcome, word: AnswerWord) -> bool
         Outcome::Ended(answer) => word_of(*answer) == word,
         _ => false,
     }
-}
-
-/// Whether the pool has the task.
-fn has_task(core: &Core, task: Task) -> bool
-    ensures { IsTrue result ↔ ((1 ≤ task) × (task ≤ (config_of core.now).tasks)) }
-{
-    let number = task.number();
-    1 <= number && number <= core.config().tasks
-}
-
-/// Whether the next step of the task's call is blocked by somebody.
-pub(crate) fn is_held_up(core: &Core, task: Task) -> bool
-    ensures { IsTrue result ↔ ((holder : ℕ) × WaitsFor core.now task (Some holder)) }
-{
-    core.is_reached();
-    core.always();
-    has_task(core, task) && core.waits_for(task).is_some()
-}
-
-/// Whether the task's call stands in that phase.
-fn stands_at(core: &Core, task: Task, phase: Phase) -> bool
-    ensures { IsTrue result ↔ (phase_of core.now task ≡ Some phase) }
-{
-    core.is_reached();
-    core.always();
-    has_task(core, task) && core.phase(task) == Some(phase)
 }
 
 /// Looks for one condition, moment by moment.

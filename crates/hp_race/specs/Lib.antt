@@ -5,3 +5,4 @@ pub mod Parts
 pub mod Races
 pub mod Text
 pub mod Writing
+pub mod Waiting

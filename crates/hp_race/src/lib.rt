@@ -4,7 +4,7 @@
 //! promises of a race that was closed that its journal is a run of the script's pool and an interleaving of the histories
 //! of its tasks, each of which made the script's calls of that task, in order and each to its end. Where tasks are killed by
 //! chance, kills stand between the calls, and some calls were refused. Which race of many it is it doesn't know, nor when a
-//! thread goes on; that the calls of a script wait as it says is only tested.
+//! thread goes on; what each call waits for is that of the script, and that its thread waits is only tested.
 #![tactic(auto)]
 
 mod again;

@@ -5,11 +5,12 @@ ghost use Rattle.hp_text.specs.Scripts.{calls_of};
 ghost use Rattle.hp_machine.specs.Events.{is_exit};
 ghost use Rattle.hp_race.specs.Calls.{CallEndsBy, EndsBy, MayKill, is_mortal, may_end};
 ghost use Rattle.hp_race.specs.Racers.{HasMadeIn, HasRun, HasStrayedIn, IsNew, IsSet, SomeStrayedIn, calls_in, is_gone};
+ghost use Rattle.hp_race.specs.Waiting.{IsBoardOf};
 
 use crate::call_range::CallRange;
 use crate::chances::{Chances, Draws, stream};
 use crate::starting_line::{Course, StartingLine};
-use crate::waiting::{Board, Need, Turns, needs_of, own_needs};
+use crate::waiting::{Board, Turns};
 use hp_base::{Event, Op};
 use hp_core::{Refusal, is_exit};
 use hp_shared::{CallFault, Halting, Hold, Reply, Seat, Shared, call};
@@ -43,7 +44,6 @@ pub(crate) struct Track<'a, L: Ledger> {
 pub(crate) struct Racer<L: Ledger> {
     pub(crate) seat: Seat<L>,
     pub(crate) calls: Vec<Op>,
-    pub(crate) needs: Vec<Need>,
     pub(crate) ending: Ending,
 }
 
@@ -149,17 +149,17 @@ fn run_racer<L: Ledger, R: Wait>(
     chances: Chances,
     racer: &mut Racer<L>,
 )
-    requires { IsSet script.now racer.old.calls.items racer.old.seat }
+    requires set { IsSet script.now racer.old.calls.items racer.old.seat }
+    requires board { IsBoardOf script.now starting_line.now.board }
     ensures { HasRun (is_mortal chances) script.now call_range racer.new.ending racer.new.seat }
 {
     let Racer {
         seat,
         calls,
-        needs,
         ending,
     } = racer;
     let task = seat.task();
-    let turns = starting_line.line_up(task, needs.as_slice(), call_range.from);
+    let turns = starting_line.line_up(task, call_range.from);
     let course = Course {
         draws: Draws::new(chances, stream(call_range, task)),
         config: script.config,
@@ -182,7 +182,6 @@ fn set_racers<L: Ledger>(
     ensures idle { IfOk result (λ set. (mortal : Bool) → All (HasMadeIn mortal script.now call_range) set.1.items) }
     ensures count { IfOk result (λ set. length set.0.items + length set.1.items ≡ length seats.items) }
 {
-    let needs = needs_of(alloc, script)?;
     let mut racers = Vec::new(alloc);
     let mut idle = Vec::new(alloc);
     for seat in seats {
@@ -190,12 +189,10 @@ fn set_racers<L: Ledger>(
         if calls.len() <= call_range.from {
             idle.push(seat)?;
         } else {
-            let needs = own_needs(alloc, needs.as_slice(), seat.task())?;
             let ending = Ending::Memory;
             racers.push(Racer {
                 seat,
                 calls,
-                needs,
                 ending,
             })?;
         }
@@ -213,7 +210,8 @@ fn run_racers<L: Ledger + Send + Sync, R: Threads + Wait + Sync>(
     call_range: CallRange,
     racers: &mut [Racer<L>],
 )
-    requires { All (λ d. IsSet script.now d.calls.items d.seat) racers.old }
+    requires set { All (λ d. IsSet script.now d.calls.items d.seat) racers.old }
+    requires board { IsBoardOf script.now board }
     ensures ran { All (λ d. HasRun (is_mortal track.now.chances) script.now call_range d.ending d.seat) racers.new }
     ensures count { length racers.new ≡ length racers.old }
 {
@@ -228,7 +226,8 @@ fn run_racers<L: Ledger + Send + Sync, R: Threads + Wait + Sync>(
         racers,
         count,
         &|_: usize, racer: &mut Racer<L>|
-            requires { IsSet script.now racer.old.calls.items racer.old.seat }
+            requires set { IsSet script.now racer.old.calls.items racer.old.seat }
+            requires board { IsBoardOf script.now starting_line.board }
             ensures { HasRun (is_mortal chances) script.entry.now call_range racer.new.ending racer.new.seat }
         {
             run_racer(
@@ -268,7 +267,6 @@ fn gather_seats<L: Ledger>(
         let Racer {
             seat,
             calls: _,
-            needs: _,
             ending,
         } = racer;
         match ending {
@@ -286,11 +284,13 @@ fn board_of(
     alloc: Global,
     script: &Script,
     call_range: CallRange,
-) -> Result<Option<Board>, AllocError> {
+) -> Result<Option<Board>, AllocError>
+    ensures { IfOk result (IsBoardOf script.now) }
+{
     if script.waits.is_empty() {
         return Ok(None);
     }
-    let board = Board::new(alloc, script.config.tasks, call_range.from)?;
+    let board = Board::new(alloc, script, call_range.from)?;
     Ok(Some(board))
 }
 

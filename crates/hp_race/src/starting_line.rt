@@ -1,8 +1,8 @@
 //! What the threads of a race go by: they begin together, let others go first, and draw which steps are denied and who is killed.
-ghost use Rattle.std.specs.Prelude.{◌||◌, nat_lt};
+ghost use Rattle.std.specs.Prelude.{◌≡◌, ◌||◌, IfSome, Some, nat_lt};
 
 use crate::chances::Draws;
-use crate::waiting::{Board, Need, Turns};
+use crate::waiting::{Board, Turns};
 use hp_base::{Config, Task};
 use hp_machine::Phase;
 use hp_shared::Gate;
@@ -18,11 +18,13 @@ const LOOKS: u32 = 10_000;
 pub(crate) struct StartingLine {
     racers: usize,
     came: AtomicUsize,
-    board: Option<Board>,
+    pub(crate) board: Option<Board>,
 }
 
 impl StartingLine {
-    pub(crate) fn new(racers: usize, board: Option<Board>) -> StartingLine {
+    pub(crate) fn new(racers: usize, board: Option<Board>) -> StartingLine
+        ensures { result.board ≡ board }
+    {
         StartingLine {
             racers,
             came: AtomicUsize::new(0),
@@ -48,15 +50,13 @@ impl StartingLine {
     }
 
     /// Waits for the others. When the calls of the task from that number on may begin, where calls wait.
-    pub(crate) fn line_up<'a>(
-        &'a self,
-        task: Task,
-        needs: &'a [Need],
-        from: usize,
-    ) -> Option<Turns<'a>> {
+    pub(crate) fn line_up(&self, task: Task, from: usize) -> Option<Turns<'_>>
+        ensures task { IfSome result (λ turns. turns.task ≡ task) }
+        ensures board { IfSome result (λ turns. self.now.board ≡ Some turns.board.now) }
+    {
         self.gather();
         let board = self.board.as_ref()?;
-        Some(Turns::new(self, board, task, needs, from))
+        Some(Turns::new(self, board, task, from))
     }
 }
 

@@ -1,112 +1,42 @@
 //! Calls that wait in a race until other tasks have ended theirs.
 //!
-//! What is proved of a race holds whoever waits for whom, since a thread that waits makes no hold. That the waits of a script are kept
-//! is tested of races that are printed as traces.
-ghost use Rattle.std.specs.Prelude.{◌≡◌, ◌<◌, ◌≤◌, ◌+◌, None, IfSome, length};
+//! Each call waits for what it waits for in a schedule. What is proved of a race holds whoever waits for whom, since a thread that waits
+//! makes no hold. That threads wait is tested of races that are printed as traces.
+ghost use Rattle.std.specs.Prelude.{◌≡◌, IfOk};
+ghost use Rattle.hp_race.specs.Waiting.{AreNeeds, is_met, needs_at, noted};
 
 use crate::starting_line::StartingLine;
-use hp_base::{Op, Task};
-use hp_text::{Script, Wait as Awaited};
+use hp_base::Task;
+use hp_text::{Need, Script, needs_of};
 use std::alloc::{AllocError, Global};
 use std::cell::Cell;
 use std::sync::{Condvar, Mutex, Wait};
 use std::thread;
 
-/// What a call waits for: before the caller's call of this number, from 0, the task at this place, from 0, ends so many calls.
-#[derive(Clone, Copy, Debug)]
-pub(crate) struct Need {
-    caller: Task,
-    number: usize,
-    place: usize,
-    calls: usize,
-}
-
-// The place of the task, from 0, where it is one of so many.
-fn place_among(task: Task, tasks: usize) -> Option<usize>
-    ensures some { IfSome result (λ place. (place < tasks) × (place + 1 ≡ task)) }
-    ensures none { result ≡ None → 1 ≤ task → ¬ (task ≤ tasks) }
-{
-    let place = (task.number() as usize).checked_sub(1)?;
-    if place < tasks { Some(place) } else { None }
-}
-
-// Counts a call for its task, where it is one of so many.
-fn count_call(counts: &mut [usize], task: Task)
-    ensures { length counts.new ≡ length counts.old }
-{
-    if let Some(place) = place_among(task, counts.len()) {
-        counts[place] = counts[place].saturating_add(1);
-    }
-}
-
-// Counts these calls, each for its task.
-fn count_calls(counts: &mut [usize], calls: &[(Task, Op)]) {
-    for (task, _) in calls {
-        count_call(counts, *task);
-    }
-}
-
-// What the first of these calls waits for, where so many calls of each task stand before it. A task that isn't there is not waited for.
-fn need_of(wait: Awaited, calls: &[(Task, Op)], counts: &[usize]) -> Option<Need> {
-    let (caller, _) = *calls.first()?;
-    let own = place_among(caller, counts.len())?;
-    let place = place_among(wait.task, counts.len())?;
-    Some(Need {
-        caller,
-        number: counts[own],
-        place,
-        calls: counts[place],
-    })
-}
-
-/// What the calls of the script wait for, in the order of its lines.
-pub(crate) fn needs_of(alloc: Global, script: &Script) -> Result<Vec<Need>, AllocError> {
-    let mut needs = Vec::new(alloc);
-    let mut counts = vec![in alloc; 0usize; script.config.tasks as usize]?;
-    let (mut passed, mut calls) = (0usize, script.calls.as_slice());
-    for wait in script.waits.as_slice() {
-        let more = (wait.call as usize).saturating_sub(passed);
-        let (before, rest) = calls.split_at(more.min(calls.len()));
-        count_calls(counts.as_mut_slice(), before);
-        passed = passed.saturating_add(before.len());
-        calls = rest;
-        if let Some(need) = need_of(*wait, calls, counts.as_slice()) {
-            needs.push(need)?;
-        }
-    }
-    Ok(needs)
-}
-
-/// Those of the task.
-pub(crate) fn own_needs(
-    alloc: Global,
-    needs: &[Need],
-    task: Task,
-) -> Result<Vec<Need>, AllocError> {
-    needs
-        .iter()
-        .filter(|need| need.caller == task)
-        .copied()
-        .collect(alloc)
-}
-
-/// How many calls each task of a race has ended.
+/// What the calls of a script wait for, and how many calls each task of a race has ended.
 #[derive(Drop)]
 pub(crate) struct Board {
+    // of each call of each task
+    pub(crate) needs: Vec<Vec<Vec<Need>>>,
     ended: Mutex<Vec<usize>>,
     moved: Condvar,
 }
 
-// The task has ended so many calls.
-fn note_ended(ended: &mut [usize], task: Task, calls: usize) {
-    if let Some(place) = place_among(task, ended.len()) {
-        ended[place] = calls;
+// The task has ended so many calls. Of one that isn't there nothing is noted.
+fn note_ended(ended: &mut [usize], task: Task, calls: usize)
+    ensures { ended.new ≡ noted ended.old task calls }
+{
+    let task = task.number() as usize;
+    if 1 <= task && task <= ended.len() {
+        ended[task - 1] = calls;
     }
 }
 
 // Whether the need is met where the tasks have ended so many calls. Nobody waits for a task that isn't there.
-fn is_met(ended: &[usize], need: Need) -> bool {
-    match ended.get(need.place) {
+fn is_met(ended: &[usize], need: Need) -> bool
+    ensures { result ≡ is_met ended.now need }
+{
+    match ended.get(need.place as usize) {
         Some(calls) => *calls >= need.calls,
         None => true,
     }
@@ -114,11 +44,27 @@ fn is_met(ended: &[usize], need: Need) -> bool {
 
 impl Board {
     /// Before the calls from that number on. A task that has fewer calls has ended all.
-    pub(crate) fn new(alloc: Global, tasks: u32, from: usize) -> Result<Board, AllocError> {
+    pub(crate) fn new(alloc: Global, script: &Script, from: usize) -> Result<Board, AllocError>
+        ensures { IfOk result (λ board. AreNeeds script.now board.needs.items) }
+    {
         Ok(Board {
-            ended: Mutex::new(vec![in alloc; from; tasks as usize]?),
+            needs: needs_of(alloc, script)?,
+            ended: Mutex::new(vec![in alloc; from; script.config.tasks as usize]?),
             moved: Condvar::new(),
         })
+    }
+
+    // What the task's call of this number waits for.
+    fn needs(&self, task: Task, number: usize) -> &[Need]
+        ensures { result.now ≡ needs_at self.now.needs.items task number }
+    {
+        match self.needs.get((task.number() as usize).saturating_sub(1)) {
+            Some(calls) => match calls.get(number) {
+                Some(needs) => needs.as_slice(),
+                None => &[],
+            },
+            None => &[],
+        }
     }
 
     fn is_met<R: Wait>(&self, rt: &R, need: Need) -> bool {
@@ -147,30 +93,27 @@ const LOOKS: u32 = 20_000_000;
 #[derive(Drop)]
 pub(crate) struct Turns<'a> {
     line: &'a StartingLine,
-    board: &'a Board,
-    task: Task,
-    needs: &'a [Need],
-    // how many of the needs are met
-    met: Cell<usize>,
+    pub(crate) board: &'a Board,
+    pub(crate) task: Task,
     // how many calls have ended
     ended: Cell<usize>,
 }
 
 impl<'a> Turns<'a> {
-    /// Those of a task whose calls need this, and are made from that number on.
+    /// Those of a task whose calls are made from that number on.
     pub(crate) fn new(
         line: &'a StartingLine,
         board: &'a Board,
         task: Task,
-        needs: &'a [Need],
         from: usize,
-    ) -> Turns<'a> {
+    ) -> Turns<'a>
+        ensures task { result.task ≡ task }
+        ensures board { result.board.now ≡ board.now }
+    {
         Turns {
             line,
             board,
             task,
-            needs,
-            met: Cell::new(0),
             ended: Cell::new(from),
         }
     }
@@ -195,17 +138,12 @@ impl<'a> Turns<'a> {
         false
     }
 
-    /// Waits for what the next call needs. Whether it may begin.
+    /// Waits for what the next call waits for. Whether it may begin.
     pub(crate) fn come<R: Wait>(&self, rt: &R) -> bool {
-        for next in self.met.get()..self.needs.len() {
-            let need = self.needs[next];
-            if need.number > self.ended.get() {
-                return true;
-            }
-            if !self.wait_for(rt, &need) {
+        for need in self.board.needs(self.task, self.ended.get()) {
+            if !self.wait_for(rt, need) {
                 return false;
             }
-            self.met.set(next + 1);
         }
         true
     }

@@ -16,10 +16,10 @@ use Rattle.hp_text.specs.ScriptLines.{HasLinesFault, ReadsScript}
 use Rattle.hp_text.specs.Streams.{sink_at, TellsReads, TellsWrites}
 use Rattle.hp_text.specs.Traces.{trace_text}
 use Rattle.hp_text.specs.Writing.{IsWriteFault, Wrote}
-use Rattle.hp_hunt.specs.Summaries.{Summarizes}
-use Rattle.hp_hunt.specs.SummaryText.{summary_text}
-use Rattle.hp_hunt.specs.declared.gathering.Survey.{Survey}
-use Rattle.hp_hunt.specs.declared.summary.Summary.{Summary}
+use Rattle.hp_summary.specs.Summaries.{Summarizes}
+use Rattle.hp_summary.specs.SummaryText.{summary_text}
+use Rattle.hp_summary.specs.declared.gathering.Survey.{Survey}
+use Rattle.hp_summary.specs.declared.summary.Summary.{Summary}
 use Rattle.hp_program.specs.Answers.{NotDone}
 use Rattle.hp_program.proofs.Answers.{answered_runs, front_kept, no_lines_fault, part_reached, reached}
 use Rattle.hp_program.proofs.Buffered.{all_of}

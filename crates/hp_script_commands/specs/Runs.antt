@@ -9,7 +9,7 @@ use Rattle.hp_explore.specs.Explored.{IsExplored}
 use Rattle.hp_explore.specs.RunLines.{WroteRuns, WroteSomeRuns}
 use Rattle.hp_explore.specs.declared.exploration.Exploration.{Exploration}
 use Rattle.hp_explore.specs.declared.line.RunLine.{RunLine}
-use Rattle.hp_hunt.specs.declared.gathering.Survey.{Survey}
+use Rattle.hp_summary.specs.declared.gathering.Survey.{Survey}
 use Rattle.hp_program.specs.Answers.{AnsweredRuns, AnsweredText, OfScript}
 use Rattle.hp_script_commands.specs.Racing.{HasRacedFault, Races, RacesPartly}
 use Rattle.hp_script_commands.specs.Summing.{SumsUp, SumsUpPartly}

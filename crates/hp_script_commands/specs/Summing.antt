@@ -2,10 +2,10 @@
 use Rattle.std.specs.Prelude.{◌≡◌, ◌==◌, ℕ, Bool, List, Option}
 use Rattle.std.specs.Io.KnownBytes.{Appends}
 use Rattle.hp_base.specs.Text.{sizes}
-use Rattle.hp_hunt.specs.Summaries.{Summarizes}
-use Rattle.hp_hunt.specs.SummaryText.{summary_text}
-use Rattle.hp_hunt.specs.declared.gathering.Survey.{Survey}
-use Rattle.hp_hunt.specs.declared.summary.Summary.{Summary}
+use Rattle.hp_summary.specs.Summaries.{Summarizes}
+use Rattle.hp_summary.specs.SummaryText.{summary_text}
+use Rattle.hp_summary.specs.declared.gathering.Survey.{Survey}
+use Rattle.hp_summary.specs.declared.summary.Summary.{Summary}
 use Rattle.hp_text.specs.ScriptLines.{ReadsScript}
 use Rattle.hp_text.specs.Writing.{Wrote}
 use Rattle.hp_text.specs.declared.script.Script.{Script}

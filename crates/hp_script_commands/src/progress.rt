@@ -1,5 +1,5 @@
 //! How far a search is, where somebody watches.
-use hp_hunt::Progress;
+use hp_workers::Progress;
 use std::io;
 use std::io::{IsTerminal, Stderr, Write};
 use std::time::{Clock, Duration, Instant};

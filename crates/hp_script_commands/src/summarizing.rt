@@ -9,7 +9,7 @@ ghost use Rattle.hp_script_commands.specs.Summing.{SumsUp, SumsUpPartly};
 
 use crate::progress::{ProgressLine, Report};
 use crate::scheduling::tell_ignored;
-use hp_hunt::{Survey, summarize, write_summary};
+use hp_summary::{Survey, summarize, write_summary};
 use hp_program::{flush_plain, flushed_answer};
 use hp_text::{ReplayFault, Sink, Source, Watched, read_any_script};
 use std::alloc::Global;

@@ -25,3 +25,4 @@ pub mod ScriptReadings
 pub mod ScriptTakings
 pub mod ScriptsOnce
 pub mod PlainScripts
+pub mod Counting

@@ -10,3 +10,5 @@ pub mod ScriptLines
 pub mod ScriptTaking
 pub mod Checking
 pub mod Columns
+pub mod CountedCalls
+pub mod Needs

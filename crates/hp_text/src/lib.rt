@@ -12,6 +12,7 @@ mod columns;
 mod fault;
 mod feed;
 mod laws;
+mod needs;
 mod reading;
 mod script;
 mod script_draft;
@@ -28,6 +29,7 @@ pub use feed::{TraceFeed, TraceLine};
 pub use laws::{
     a_plain_script_is_a_trace, bytes_have_one_reading, pieces_do_not_show, what_is_held_is_spelled,
 };
+pub use needs::{Need, needs_of, task_needs};
 pub use reading::{after_word, event_at, header_at, last_at, short_at};
 pub use script::{Script, Wait, read_script};
 pub use streams::{PIECE, Sink, Source, Watched};

@@ -1,3 +1,5 @@
 pub mod Holders
 pub mod Happenings
+pub mod Moments
 pub mod Phases
+pub mod Standing

@@ -1,4 +1,5 @@
 pub mod Holders
 pub mod Happenings
 pub mod Linux
+pub mod Moments
 pub mod Phases

@@ -5,10 +5,12 @@
 //! What prints, draws or searches runs stands on it, and lists none of that itself.
 #![tactic(auto)]
 
+mod asked;
 mod linux;
 mod passing;
 mod run;
 
+pub use asked::{is_held_up, stands_at};
 pub use linux::{linux_of_op, linux_of_step};
 pub use passing::{can_leave, may_pass, may_wait, no_calls, phase_after};
 pub use run::{Run, phase_in, stood_at};

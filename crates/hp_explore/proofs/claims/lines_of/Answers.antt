@@ -1,12 +1,15 @@
--- What one more worker claimed is in its slots, and that of one less is left.
-use Rattle.std.proofs.Common.{[], ◌∷◌}
-use Rattle.hp_explore.specs.Claims.{AreClaimed}
-use Rattle.hp_explore.proofs.Claimed.{all_before}
+-- The runs have their places, from 0, and their numbers.
+use Rattle.std.proofs.Common.{arith}
+use Rattle.std.proofs.lemmas.Result.{IfOk-weaker}
+use Rattle.hp_explore.specs.Claims.{IsLineOf}
+use Rattle.hp_workers.proofs.Pieces.{numbered}
 use Rattle.hp_explore.proofs.claims.lines_of.Goals as goal
 
-pub loop-claimed-preserved : goal.loop-claimed-preserved
-loop-claimed-preserved g c = record {
-  slots = c.fill_slots.ensures;
-  found = all_before (λ claimed. AreClaimed c.args.runs claimed.items) c.pop.new.self.items (c.in-Some.claimed ∷ [])
-      c.loop-claimed.found.items c.in-Some.ensures.items c.loop-claimed.invariant.found;
-}
+pub all_made-requires-clause-each : goal.all_made-requires-clause-each
+all_made-requires-clause-each g c κs live = λ place there. (c.requires, there)
+
+pub returns : goal.returns
+returns g c =
+    let runs = c.args.runs in
+    IfOk-weaker c.all_made.result _ _ (λ lines h. numbered (IsLineOf runs) runs.first 0 runs.first runs.count lines.items (omega arith) h)
+    c.all_made.ensures

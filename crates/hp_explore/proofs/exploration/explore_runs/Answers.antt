@@ -6,7 +6,7 @@ use Rattle.hp_explore.specs.Schedule.{Plan}
 use Rattle.hp_explore.specs.Explored.{EndsWell, IsLine}
 use Rattle.hp_explore.specs.Claims.{IsLineOf}
 use Rattle.hp_explore.proofs.Claimed.{both_of_line}
-use Rattle.hp_explore.proofs.Collected.{if_ok_left, if_ok_right, if_ok_weaken}
+use Rattle.hp_workers.proofs.Collected.{if_ok_left, if_ok_right, if_ok_weaken}
 use Rattle.hp_explore.proofs.exploration.explore_runs.Goals as goal
 
 pub returns : goal.returns

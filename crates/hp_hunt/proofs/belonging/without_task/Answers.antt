@@ -1,4 +1,4 @@
-use Rattle.std.proofs.Common.{◌∷◌, [], ◌++◌, List, ◌∙◌, ap, sym, subst, take, length, ◌+◌}
+use Rattle.std.proofs.Common.{[], List, sym, subst, take, ◌+◌}
 use Rattle.hp_base.specs.declared.event.Event.{Event}
 use Rattle.hp_hunt.proofs.Cuts.{place_dropped, place_kept, same_left}
 use Rattle.hp_hunt.specs.Cutting.{IsSubsequence}

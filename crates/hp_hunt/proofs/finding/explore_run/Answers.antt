@@ -8,11 +8,12 @@ use Rattle.hp_core.specs.State.{CoreState}
 use Rattle.hp_explore.specs.Schedule.{World}
 use Rattle.hp_explore.specs.SoFar.{GoesOn, IsSoFar}
 use Rattle.hp_explore.specs.declared.turned.Turned.{Turned}
-use Rattle.hp_hunt.specs.Moments.{Moment}
+use Rattle.hp_watch.specs.Moments.{Moment}
 use Rattle.hp_hunt.specs.Watching.{AllKnow}
 use Rattle.hp_hunt.specs.declared.condition.Condition.{Condition}
 use Rattle.hp_hunt.specs.declared.watching.Watch.{Watch}
-use Rattle.hp_hunt.proofs.Explored.{none_told, run_judged}
+use Rattle.hp_watch.proofs.Moments.{none_told}
+use Rattle.hp_hunt.proofs.Explored.{run_judged}
 use Rattle.hp_hunt.proofs.Watches.{IsWatched, judged, watch_goes_on, watch_starts}
 use Rattle.hp_hunt.proofs.finding.explore_run.Goals as goal
 

@@ -1,7 +1,7 @@
 -- The first of a part is the first of all, where those before it miss.
 use Rattle.std.proofs.Common.{◌≤◌, ◌+◌, refl, arith}
 use Rattle.hp_hunt.proofs.Claimed.{all_missed, found_first}
-use Rattle.hp_hunt.proofs.Explored.{none_told}
+use Rattle.hp_watch.proofs.Moments.{none_told}
 use Rattle.hp_hunt.proofs.finding.find.Goals as goal
 
 pub returns-in-Some-clause-found : goal.returns-in-Some-clause-found

@@ -1,4 +1,4 @@
-use Rattle.std.proofs.Common.{◌≡◌, ◌≤◌, ◌∙◌, ◌-◌, List, length, ap, arith, inl, inr, refl, subst, sym}
+use Rattle.std.proofs.Common.{◌≡◌, ◌∙◌, ◌-◌, List, ap, arith, inl, inr, refl, subst, sym}
 use Rattle.hp_base.proofs.Puts.{same_or_other}
 use Rattle.hp_base.specs.declared.event.Event.{Event}
 use Rattle.hp_hunt.specs.Lowering.{IsLowest, sum_of}

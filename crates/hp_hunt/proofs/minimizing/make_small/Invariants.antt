@@ -1,4 +1,3 @@
-use Rattle.hp_hunt.specs.Cutting.{IsCut}
 use Rattle.hp_hunt.specs.Numbers.{IsLeft}
 use Rattle.hp_hunt.specs.Lowering.{sum_of}
 use Rattle.std.proofs.Common.{◌<◌, ℕ, length}

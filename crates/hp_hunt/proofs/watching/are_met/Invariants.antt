@@ -3,7 +3,7 @@ use Rattle.std.proofs.Common.{◌≡◌, ℕ, ◌<◌, List}
 use Rattle.std.specs.Prelude.{slice_index_or}
 use Rattle.hp_core.specs.State.{CoreState}
 use Rattle.hp_hunt.specs.Conditions.{Meets}
-use Rattle.hp_hunt.specs.Moments.{Moment, last_of}
+use Rattle.hp_watch.specs.Moments.{Moment, last_of}
 use Rattle.hp_hunt.specs.Watching.{AllKnow}
 use Rattle.hp_hunt.specs.declared.condition.Condition.{Condition}
 use Rattle.hp_hunt.specs.declared.watching.Watch.{Watch}

@@ -1,5 +1,5 @@
 -- One watch more has seen the moment.
-use Rattle.hp_hunt.specs.Moments.{Moment}
+use Rattle.hp_watch.specs.Moments.{Moment}
 use Rattle.hp_hunt.proofs.Watches.{one_seen, all_seen}
 use Rattle.hp_hunt.proofs.watching.see_all.Goals as goal
 use Rattle.std.proofs.Common.{◌<◌, ◌≤◌, length, arith}

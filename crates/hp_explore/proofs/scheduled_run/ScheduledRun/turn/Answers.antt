@@ -1,5 +1,5 @@
 -- The walk's turn is one of the run; where there is none, the run is over.
-use Rattle.std.proofs.Common.{◌≡◌, ◌∙◌, [], ap, sym, subst, length, arith, inl, inr}
+use Rattle.std.proofs.Common.{◌∙◌, [], ap, sym, subst, length, arith, inl, inr}
 use Rattle.std.specs.Prelude.{IfSome}
 use Rattle.hp_explore.specs.SoFar.{RunState, Ends, GoesOn}
 use Rattle.hp_explore.specs.Schedule.{World, AreRunnable, IsPlan}

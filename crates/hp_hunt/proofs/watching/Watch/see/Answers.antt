@@ -1,7 +1,7 @@
 -- It was seen before, or is met now.
 use Rattle.std.proofs.Common.{◌≡◌, ap, refl}
 use Rattle.std.specs.Prelude.{Bool, ◌||◌}
-use Rattle.hp_hunt.specs.Moments.{Moment}
+use Rattle.hp_watch.specs.Moments.{Moment}
 use Rattle.hp_hunt.proofs.Watches.{knows_more}
 use Rattle.hp_hunt.proofs.watching.Watch.see.Goals as goal
 use Rattle.hp_hunt.proofs.watching.Watch.see.Goals.{then-self, else-self}

@@ -1,7 +1,0 @@
--- the runs up to here have been counted
-use Rattle.std.proofs.Common.{◌+◌}
-use Rattle.hp_hunt.specs.Gathering.{AreCounted}
-use Rattle.hp_hunt.proofs.gathering.count_batch.Given as goal
-
-abbrev pub invariant-loop-place : goal.invariant-loop-place
-invariant-loop-place g l = AreCounted l.batch (l.batch.first + l.place) l.tally

@@ -1,0 +1,4 @@
+pub mod Counted
+pub mod Gathered
+pub mod Laid
+pub mod Noted

@@ -1,0 +1,39 @@
+use Rattle.std.proofs.Common.{◌++◌, [], ◌∷◌, ◌∙◌, List, ap, sym}
+use Rattle.std.proofs.lemmas.List.{append-nil}
+use Rattle.hp_base.specs.Text.{Sizes}
+use Rattle.hp_summary.specs.Facts.{ended_in}
+use Rattle.hp_summary.specs.declared.facts.Ended.{Ended}
+use Rattle.hp_summary.proofs.Noted.{held_more}
+use Rattle.hp_summary.proofs.noting.Notes.see.Goals as goal
+
+pub returns-in_ok-push-clause-knows : goal.returns-in_ok-push-clause-knows
+returns-in_ok-push-clause-knows c = λ old before row notes.
+    let sized = ap (λ (z : Sizes). z.tasks) c.config-tasks.ensures in
+    record {
+      reached = c.is_reached.ensures;
+      phases = c.note_phase.ensures.phases;
+      ended = c.in_ok-push.ensures.items ∙ ap (λ (xs : List Ended). xs ++ c.in-Some.ended ∷ []) notes.ended
+          ∙ ap (λ (xs : List Ended). ended_in before ++ xs) (sym c.in-Some.ensures.some);
+      held = held_more old c.args.core.now c.args.event.now c.args.outcome.now c.args.self.now.phases.items c.args.self.now.held.items
+          c.mark_waiting.new.held.items before c.config-tasks.result.tasks c.quiet_place-quiet.result notes.reached row notes.phases
+          (c.requires.long.phases ∙ sym sized) c.quiet_place-quiet.ensures.there
+          (rw c.as_slice.ensures.value at c.quiet_place-quiet.ensures.quiet)
+          (c.requires.long.held ∙ sym sized) c.mark_waiting.ensures.long c.mark_waiting.ensures.marked notes.held;
+      met = c.note_phase.ensures.met old before row notes.met;
+    }
+
+pub returns-in_default-clause-knows : goal.returns-in_default-clause-knows
+returns-in_default-clause-knows c = λ old before row notes.
+    let sized = ap (λ (z : Sizes). z.tasks) c.config-tasks.ensures in
+    record {
+      reached = c.is_reached.ensures;
+      phases = c.note_phase.ensures.phases;
+      ended = notes.ended ∙ sym (append-nil (ended_in before))
+          ∙ ap (λ (xs : List Ended). ended_in before ++ xs) (sym (c.ended_by.ensures.none c.in_default.is));
+      held = held_more old c.args.core.now c.args.event.now c.args.outcome.now c.args.self.now.phases.items c.args.self.now.held.items
+          c.mark_waiting.new.held.items before c.config-tasks.result.tasks c.quiet_place-quiet.result notes.reached row notes.phases
+          (c.requires.long.phases ∙ sym sized) c.quiet_place-quiet.ensures.there
+          (rw c.as_slice.ensures.value at c.quiet_place-quiet.ensures.quiet)
+          (c.requires.long.held ∙ sym sized) c.mark_waiting.ensures.long c.mark_waiting.ensures.marked notes.held;
+      met = c.note_phase.ensures.met old before row notes.met;
+    }
