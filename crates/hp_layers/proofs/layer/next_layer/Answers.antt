@@ -1,0 +1,52 @@
+use Rattle.std.proofs.Common.{◌∙◌, sym, ap, ◌++◌, ◌∷◌, [], subst, List, take}
+use Rattle.std.specs.Prelude.{Contains}
+use Rattle.std.proofs.lemmas.List.{take_more}
+use Rattle.std.proofs.lemmas.List.Elements.{Contains-get_or}
+use Rattle.std.specs.List.{list_any}
+use Rattle.std.specs.HashSet.{contains}
+use Rattle.hp_layers.specs.Layers.{AreNext}
+use Rattle.hp_layers.proofs.Covering.{are_valid, next_of_none, next_on, none_stand, none_valid, valid_after}
+use Rattle.hp_layers.proofs.layer.next_layer.Goals as goal
+
+pub loop-state-init : goal.loop-state-init
+loop-state-init g c =
+    let turn = g.M.Turns.turn c.args.system.now in
+    let alike = g.M.Turns.alike c.args.system.now in
+    let eq = g.M.Key.PartialEq.eq in (
+      none_stand eq (g.M.Turns.key_of c.args.system.now) (contains eq c.new-seen.result) c.new-next.result.items
+          (λ k. ap (list_any (eq k)) c.new-seen.ensures.empty),
+      subst (λ (l : List _). AreNext turn alike [] l) (sym c.new-next.ensures.items) (next_of_none turn alike),
+      none_valid (g.M.Turns.valid c.args.system.now) c.new-next.result.items c.new-next.ensures.items,
+    )
+
+pub loop-state-preserved : goal.loop-state-preserved
+loop-state-preserved g c =
+    let turn = g.M.Turns.turn c.args.system.now in
+    let alike = g.M.Turns.alike c.args.system.now in
+    let good = g.met.M.Turns.as_good c.args.system.now in
+    let state = c.state-item.result in (
+      c.in_ok-add_all.ensures.stand,
+      subst (λ (l : List _). AreNext turn alike l c.add_all.new.next.items)
+          (sym (take_more c.args.layer.now c.loop-state.state-index state c.loop-state-test.true
+          ∙ ap (λ (x : _). take c.loop-state.state-index c.args.layer.now ++ x ∷ []) (sym c.state-item.is)))
+          (next_on turn alike (take c.loop-state.state-index c.args.layer.now) c.loop-state.next.items c.in_ok-after.after.items
+          c.add_all.new.next.items state good.onward c.loop-state.invariant.1 c.in_ok-after.ensures c.in_ok-add_all.ensures.added),
+      c.in_ok-add_all.ensures.next,
+    )
+
+pub after-requires : goal.after-requires
+after-requires g c =
+    are_valid (g.M.Turns.valid c.args.system.now) c.args.layer.now c.requires.layer c.state-item.result
+    (subst (Contains c.args.layer.now) (sym c.state-item.is)
+    (Contains-get_or c.args.layer.now c.loop-state.state-index c.state-item.result c.loop-state-test.true))
+
+pub add_all-requires-clause-states : goal.add_all-requires-clause-states
+add_all-requires-clause-states g c =
+    let valid = g.M.Turns.valid c.args.system.now in
+    let good = g.met.M.Turns.as_good c.args.system.now in
+    valid_after valid (g.M.Turns.turn c.args.system.now) (g.M.Turns.alike c.args.system.now) c.state-item.result c.in_ok-after.after.items
+    good.stays
+    (are_valid valid c.args.layer.now c.requires.layer c.state-item.result
+    (subst (Contains c.args.layer.now) (sym c.state-item.is)
+    (Contains-get_or c.args.layer.now c.loop-state.state-index c.state-item.result c.loop-state-test.true)))
+    c.in_ok-after.ensures
