@@ -33,9 +33,11 @@ use Rattle.hp_machine.specs.declared.outcome.Life.{Life}
 use Rattle.hp_machine.specs.declared.outcome.Life.TheVariants.{Alive, Killed, Dead}
 use Rattle.hp_key.specs.declared.carried.Carried.{Carried}
 use Rattle.hp_key.specs.declared.carried.Change.{Change}
-use Rattle.hp_key.specs.Numbers.{access_words, answer_number, answer_value, answer_words, change_words, counted, life_number, maybe, number_words, wide}
+use Rattle.hp_key.specs.Numbers.{access_words, answer_number, answer_value, answer_words, change_words, counted, life_number, maybe}
+use Rattle.hp_key.specs.Numbers.{number_words, wide}
 use Rattle.hp_key.specs.Carried.{call_words, carried, carried_words}
-use Rattle.hp_key.proofs.Tells.{Own, Tells, cons_same, tells_at, tells_both, tells_counted, tells_flag, tells_maybe, tells_number, tells_then, tells_wide}
+use Rattle.hp_key.proofs.Tells.{Own, Tells, cons_same, tells_at, tells_both, tells_counted, tells_flag, tells_maybe, tells_number}
+use Rattle.hp_key.proofs.Tells.{tells_then, tells_wide}
 
 -- ---- lists and what may be there, of things that their words tell
 
@@ -247,11 +249,14 @@ alloc_back c =
     else if c.phase == 3 then alloc.Locked (record { allocation = allocation_of c; index = c.index })
     else if c.phase == 4 then alloc.Missing (record { allocation = allocation_of c; index = c.index })
     else if c.phase == 5 then alloc.Changed (record { allocation = allocation_of c; index = c.index; pending = pending_of c })
-    else if c.phase == 6 then alloc.Abort (record { allocation = allocation_of c; index = c.index; pending = pending_of c; answer = answer_of c })
-    else if c.phase == 7 then alloc.Taken (record { allocation = allocation_of c; index = c.index; pending = pending_of c; held = held_of c })
+    else if c.phase == 6
+    then alloc.Abort (record { allocation = allocation_of c; index = c.index; pending = pending_of c; answer = answer_of c })
+    else if c.phase == 7
+    then alloc.Taken (record { allocation = allocation_of c; index = c.index; pending = pending_of c; held = held_of c })
     else if c.phase == 8 then alloc.Settle (record { allocation = allocation_of c; index = c.index; held = held_of c })
     else if c.phase == 9 then alloc.Committed (record { allocation = allocation_of c; index = c.index; held = held_of c })
-    else if c.phase == 10 then alloc.Restore (record { allocation = allocation_of c; index = c.index; held = held_of c; answer = answer_of c })
+    else if c.phase == 10
+    then alloc.Restore (record { allocation = allocation_of c; index = c.index; held = held_of c; answer = answer_of c })
     else if c.phase == 11 then alloc.Unslot (record { allocation = allocation_of c; index = c.index; answer = c.answer })
     else if c.phase == 12 then alloc.Extend (record { allocation = allocation_of c })
     else alloc.Leave (record { allocation = allocation_of c; answer = answer_of c })
@@ -276,7 +281,8 @@ truncate_back c =
     else if c.phase == 3 then truncate.Locked (record { truncation = truncation_of c; index = c.index; evicted = c.evicted })
     else if c.phase == 4 then truncate.Unmap (record { truncation = truncation_of c; index = c.index; evicted = c.evicted; task = c.task })
     else if c.phase == 5 then truncate.Evict (record { truncation = truncation_of c; index = c.index; evicted = c.evicted })
-    else if c.phase == 6 then truncate.Free (record { truncation = truncation_of c; index = c.index; evicted = c.evicted; held = held_of c })
+    else if c.phase == 6
+    then truncate.Free (record { truncation = truncation_of c; index = c.index; evicted = c.evicted; held = held_of c })
     else if c.phase == 7 then truncate.Unslot (record { truncation = truncation_of c; index = c.index; evicted = c.evicted })
     else if c.phase == 8 then truncate.Tail (record { truncation = truncation_of c; evicted = c.evicted })
     else if c.phase == 9 then truncate.Settle (record { truncation = truncation_of c; excess = c.excess; evicted = c.evicted })

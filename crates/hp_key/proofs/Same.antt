@@ -22,13 +22,16 @@ use Rattle.hp_machine.specs.declared.call.Call.{Call}
 use Rattle.hp_laws.proofs.Meets.{held_there, page_placed}
 use Rattle.hp_laws.proofs.Runs.{always}
 use Rattle.hp_parts.specs.declared.parts.FileState.{FileState}
-use Rattle.hp_parts.specs.View.{entries_of, holders_of, mappings_by_task, no_file, no_table, pages_of, pendings_of, ready_by_task, sets_of, sizes_of, spares_of, table_of}
+use Rattle.hp_parts.specs.View.{entries_of, holders_of, mappings_by_task, no_file, no_table, pages_of, pendings_of, ready_by_task}
+use Rattle.hp_parts.specs.View.{sets_of, sizes_of, spares_of, table_of}
 use Rattle.hp_core.specs.State.{CoreState, as_state, calls_of, lives_of}
 use Rattle.hp_core.specs.declared.task_state.TaskState.{TaskState}
-use Rattle.hp_key.specs.Key.{entry_words, file_words, frame_number, frame_words, key_words, mapping_words, page_words, region_words, space_words, task_words, word_in}
+use Rattle.hp_key.specs.Key.{entry_words, file_words, frame_number, frame_words, key_words, mapping_words, page_words, region_words}
+use Rattle.hp_key.specs.Key.{space_words, task_words, word_in}
 use Rattle.hp_key.specs.Numbers.{counted, maybe, number_words}
 use Rattle.hp_key.proofs.Calls.{own_back, own_call, own_counted, own_life, own_maybe}
-use Rattle.hp_key.proofs.Tells.{Own, Tells, cons_same, tells_at, tells_both, tells_counted, tells_flag, tells_number, tells_of, tells_then, tells_whole, tells_wide}
+use Rattle.hp_key.proofs.Tells.{Own, Tells, cons_same, tells_at, tells_both, tells_counted, tells_flag, tells_number, tells_of}
+use Rattle.hp_key.proofs.Tells.{tells_then, tells_whole, tells_wide}
 
 -- ---- what the words of each thing tell
 
@@ -49,7 +52,8 @@ own_entry = tells_then (λ (e : ℕ × ℕ). e.0) (tells_at (λ (e : ℕ × ℕ)
 
 own_task : Own task_words
 own_task =
-    own_back {words = task_words} (λ (t : TaskState). (t.life, t.call)) (λ (p : Life × Option Call). record { life = p.0; call = p.1 }) (λ t. refl)
+    own_back {words = task_words} (λ (t : TaskState). (t.life, t.call))
+    (λ (p : Life × Option Call). record { life = p.0; call = p.1 }) (λ t. refl)
     (tells_both (tells_at (λ (t : TaskState). t.life) own_life) (tells_at (λ (t : TaskState). t.call) (own_maybe own_call)))
 
 -- a page, with the word of its frame
@@ -204,7 +208,8 @@ module _ (s n : CoreState) (same : AreSame s n) where
 
   -- a page of the one, with its word, is one of the other
   find_view : (frames : List FrameState) (i : ℕ) (es : List (ℕ × ℕ))
-      → finite.find nat_cmp i (map (page_view frames) es) ≡ option_map {U = ℕ × ℕ} (λ x. (x, word_in (frame_at frames x))) (finite.find nat_cmp i es)
+      → finite.find nat_cmp i (map (page_view frames) es)
+      ≡ option_map {U = ℕ × ℕ} (λ x. (x, word_in (frame_at frames x))) (finite.find nat_cmp i es)
   find_view frames i [] = refl
   find_view frames i (e ∷ es) = by (eq_by_cmp nat_cmp i e.0) (find_view frames i es)
     where

@@ -109,10 +109,11 @@ no_region = record { from = 0; to = 0 }
 
 pub region_there : (regions : List Region) (k : ℕ) (o : Option (ℕ × ℕ)) → k < length regions
     → o ≡ option_map (λ r. (r.from, r.to)) (slice_get regions k) → IsSome o
-region_there regions k o within read = ap is_some read ∙ by regions k within
+region_there regions k o within read =
+    ap is_some read ∙ ap there (slice_get-get_or regions k no_region within)
   where
-    by : (rs : List Region) (j : ℕ) → j < length rs → is_some (option_map {U = ℕ × ℕ} (λ r. (r.from, r.to)) (slice_get rs j)) ≡ true
-    by rs j l = (let z = slice_get-get_or rs j no_region l in ap (λ (g : Option Region). is_some (option_map {U = ℕ × ℕ} (λ r. (r.from, r.to)) g)) z)
+    there : Option Region → Bool
+    there g = is_some (option_map {U = ℕ × ℕ} (λ r. (r.from, r.to)) g)
 
 -- the region that is read at a place is the one there
 pub region_read : (regions : List Region) (k : ℕ) (o : Option (ℕ × ℕ)) (r : ℕ × ℕ) (d : Region)

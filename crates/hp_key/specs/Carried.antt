@@ -105,8 +105,10 @@ carried (call.Alloc (alloc.Want p)) = in_alloc_at 2 p.allocation p.index
 carried (call.Alloc (alloc.Locked p)) = in_alloc_at 3 p.allocation p.index
 carried (call.Alloc (alloc.Missing p)) = in_alloc_at 4 p.allocation p.index
 carried (call.Alloc (alloc.Changed p)) = record (in_alloc_at 5 p.allocation p.index) { change = Some (change_of p.pending) }
-carried (call.Alloc (alloc.Abort p)) = record (in_alloc_at 6 p.allocation p.index) { change = Some (change_of p.pending); answer = Some p.answer }
-carried (call.Alloc (alloc.Taken p)) = record (in_alloc_at 7 p.allocation p.index) { change = Some (change_of p.pending); frame = Some p.held }
+carried (call.Alloc (alloc.Abort p)) =
+    record (in_alloc_at 6 p.allocation p.index) { change = Some (change_of p.pending); answer = Some p.answer }
+carried (call.Alloc (alloc.Taken p)) =
+    record (in_alloc_at 7 p.allocation p.index) { change = Some (change_of p.pending); frame = Some p.held }
 carried (call.Alloc (alloc.Settle p)) = record (in_alloc_at 8 p.allocation p.index) { frame = Some p.held }
 carried (call.Alloc (alloc.Committed p)) = record (in_alloc_at 9 p.allocation p.index) { frame = Some p.held }
 carried (call.Alloc (alloc.Restore p)) = record (in_alloc_at 10 p.allocation p.index) { frame = Some p.held; answer = Some p.answer }

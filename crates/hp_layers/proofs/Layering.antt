@@ -5,7 +5,8 @@ use Rattle.std.specs.List.{AllWithin}
 use Rattle.std.proofs.Math.Nat.{eq-or-lt_of_le}
 use Rattle.std.proofs.lemmas.Bool.{cases_lt}
 use Rattle.std.proofs.lemmas.List.Elements.{Contains-get_or, Contains-push_cases, Contains-push}
-use Rattle.hp_layers.specs.Layers.{AreValid, AreNext, IsAsGood, IsCovered, IsLayer, IsReached, IsShortest, MeetsAt, NoneBefore, NoneIsMet, NoneMeets}
+use Rattle.hp_layers.specs.Layers.{AreNext, AreValid, IsAsGood, IsCovered, IsLayer, IsReached, IsShortest, MeetsAt, NoneBefore}
+use Rattle.hp_layers.specs.Layers.{NoneIsMet, NoneMeets}
 
 -- at none of the places a state meets it
 pub none_met : {S : Type 0} (meets : S → Type 0) (layer : List S) (n : ℕ) → length layer ≤ n → AllWithin (λ s. meets s → ⊥) layer 0 n
@@ -22,8 +23,10 @@ first_layer {S} turn alike first itself = record {
   covers = λ s e. (first, Contains-push [] first, subst (λ (t : S). alike t first) (sym e) itself);
 }
 
-pub next_is_layer : {S : Type 0} (valid : S → Type 0) (turn alike : S → S → Type 0) (meets : S → Type 0) (first : S) (n : ℕ) (layer next : List S)
-    → IsAsGood valid turn meets alike → IsLayer turn alike first n layer → AreNext turn alike layer next → IsLayer turn alike first (suc n) next
+-- the next states of a layer are the layer of one turn more
+pub next_is_layer : {S : Type 0} (valid : S → Type 0) (turn alike : S → S → Type 0) (meets : S → Type 0) (first : S) (n : ℕ)
+    (layer next : List S) → IsAsGood valid turn meets alike → IsLayer turn alike first n layer → AreNext turn alike layer next
+    → IsLayer turn alike first (suc n) next
 unfolding IsReached IsCovered
 next_is_layer {S} valid turn alike meets first n layer next good l a = record {
   reached = λ t c. (let z = a.some t c in (z.0, l.reached z.0 z.1, z.2));
@@ -41,10 +44,12 @@ unfolding NoneIsMet NoneMeets IsCovered
 layer_misses valid turn alike meets first n layer good l none s r m =
     let z = l.covers s r in none z.0 z.1 (good.meets_too s z.0 z.2 m)
 
+-- in fewer turns than none nothing is reached
 pub none_before_first : {S : Type 0} (turn : S → S → Type 0) (meets : S → Type 0) (first : S) → NoneBefore turn meets first 0
 unfolding NoneBefore
 none_before_first turn meets first m lt = absurd (omega (arith, lt))
 
+-- nor in fewer than one more, where none of this layer is met
 pub none_before_next : {S : Type 0} (turn : S → S → Type 0) (meets : S → Type 0) (first : S) (n : ℕ) → NoneBefore turn meets first n
     → NoneMeets turn meets first n → NoneBefore turn meets first (n + 1)
 unfolding NoneBefore
@@ -65,6 +70,7 @@ ends {S} turn alike first n l (suc m) le s r =
     split : (n m : ℕ) → n ≤ suc m → (n ≤ m) ⊎ (n ≡ suc m)
     split n m le = elim (eq-or-lt_of_le le) [ inl e ↦ inr e | inr f ↦ inl (omega (arith, f)) ]
 
+-- so where a layer is empty, none is ever met
 pub never : {S : Type 0} (turn alike : S → S → Type 0) (meets : S → Type 0) (first : S) (n : ℕ) → IsLayer turn alike first n []
     → NoneBefore turn meets first n → (m : ℕ) → NoneMeets turn meets first m
 unfolding NoneBefore NoneMeets
@@ -74,6 +80,7 @@ never turn alike meets first n l before m s r met =
       | inr f ↦ ends turn alike first n l m f s r
     ]
 
+-- and what is met first is met by a shortest run
 pub shortest : {S : Type 0} (turn alike : S → S → Type 0) (meets : S → Type 0) (first : S) (n : ℕ) (layer : List S) (place : ℕ) (s : S)
     → IsLayer turn alike first n layer → NoneBefore turn meets first n → MeetsAt meets layer place → s ≡ slice_index_or layer place s
     → IsShortest turn meets first s n
@@ -90,6 +97,7 @@ unfolding IsReached
 reached_valid valid turn first keeps v zero s r = subst valid (sym r) v
 reached_valid valid turn first keeps v (suc n) s r = keeps r.0 s (reached_valid valid turn first keeps v n r.0 r.1) r.2
 
+-- so are the states of a layer
 pub layer_valid : {S : Type 0} (valid : S → Type 0) (turn alike : S → S → Type 0) (first : S) (n : ℕ) (layer : List S)
     → ((x y : S) → valid x → turn x y → valid y) → valid first → IsLayer turn alike first n layer → AreValid valid layer
 unfolding AreValid

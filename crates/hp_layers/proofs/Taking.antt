@@ -1,5 +1,6 @@
 -- Endings that are taken from layers.
-use Rattle.std.proofs.Common.{arith, inl, inr, ◌≡◌, ◌∙◌, sym, ap, ◌<◌, ◌+◌, ◌++◌, ◌∷◌, ◌⊎◌, [], ℕ, Bool, true, false, cond, List, refl, subst, below_more}
+use Rattle.std.proofs.Common.{arith, inl, inr, ◌≡◌, ◌∙◌, sym, ap, ◌<◌, ◌+◌, ◌++◌, ◌∷◌, ◌⊎◌, [], ℕ, Bool, true, false, cond, List}
+use Rattle.std.proofs.Common.{refl, subst, below_more}
 use Rattle.std.specs.Prelude.{Contains, Option, Some, not}
 use Rattle.std.proofs.lemmas.Bool.{cases_lt}
 use Rattle.std.proofs.lemmas.List.Elements.{Contains-append_left, Contains-push, Contains-push_cases}
@@ -24,9 +25,9 @@ false_from_not b true is e = (let z : true ≡ false = sym is ∙ e in absurd (c
 false_from_not b false is e = refl
 
 -- what that takes
-pub takes_it : {S E : Type 0} (eq : E → E → Bool) (ending : S → Option E) (has more : E → Bool) (table : List S) (s : S) (how : E) (added : Bool)
-    → ending s ≡ Some how → more how ≡ true → ((q : E) → more q ≡ cond (eq how q) true (has q)) → added ≡ true → added ≡ not (has how)
-    → TakesOne ending has more table s (table ++ s ∷ [])
+pub takes_it : {S E : Type 0} (eq : E → E → Bool) (ending : S → Option E) (has more : E → Bool) (table : List S) (s : S) (how : E)
+    (added : Bool) → ending s ≡ Some how → more how ≡ true → ((q : E) → more q ≡ cond (eq how q) true (has q)) → added ≡ true
+    → added ≡ not (has how) → TakesOne ending has more table s (table ++ s ∷ [])
 takes_it {S} {E} eq ending has more table s how added is there updates was new = record {
   kept = λ e h. by e (eq how e) (updates e) h;
   own = λ e q. (let same : how ≡ e = (let z : Some how ≡ Some e = sym is ∙ q in cc) in subst (λ (d : E). more d ≡ true) same there);
@@ -47,13 +48,16 @@ pub record TakesMost {S E : Type 0} (ending : S → Option E) (has more : E → 
   pub of : (t : S) → Contains left t → Contains states t
   pub rest : (t : S) (e : E) → Contains states t → ending t ≡ Some e → Contains left t ⊎ (more e ≡ true)
 
-pub takes_none : {S E : Type 0} (ending : S → Option E) (has : E → Bool) (old states : List S) → TakesMost ending has has old states states old
+-- none is looked at yet
+pub takes_none : {S E : Type 0} (ending : S → Option E) (has : E → Bool) (old states : List S)
+    → TakesMost ending has has old states states old
 takes_none ending has old states = record { kept = λ e h. h; some = λ t c. inl c; of = λ t c. c; rest = λ t e c q. inl c }
 
 not_before : (b c : Bool) → (b ≡ true → c ≡ true) → c ≡ false → b ≡ false
 not_before true c up is = (let z : true ≡ false = sym (up refl) ∙ is in absurd (cc))
 not_before false c up is = refl
 
+-- one more is
 pub takes_more : {S E : Type 0} (ending : S → Option E) (has mid more : E → Bool) (old states left less new newer : List S) (s : S)
     → TakesMost ending has mid old states left new → left ≡ less ++ s ∷ [] → TakesOne ending mid more new s newer
     → TakesMost ending has more old states less newer
@@ -78,6 +82,7 @@ takes_more {S} {E} ending has mid more old states left less new newer s m e o = 
   ];
 }
 
+-- all are
 pub takes_all : {S E : Type 0} (ending : S → Option E) (has more : E → Bool) (old states left new : List S) → left ≡ []
     → TakesMost ending has more old states left new → AreTaken ending has more old states new
 takes_all {S} ending has more old states left new none m = record {
@@ -94,22 +99,26 @@ unfoldable pub HasBefore : {S E : Type 0} → (turn : S → S → Type 0) → (e
     → Type 0
 HasBefore {S} {E} turn ending first has n = (m : ℕ) → m < n → (s : S) (e : E) → IsReached turn first m s → ending s ≡ Some e → has e ≡ true
 
+-- no ending comes in fewer turns than none
 pub has_before_first : {S E : Type 0} (turn : S → S → Type 0) (ending : S → Option E) (first : S) (has : E → Bool)
     → HasBefore turn ending first has 0
 unfolding HasBefore
 has_before_first turn ending first has m lt s e r q = absurd (omega (arith, lt))
 
+-- an empty table has no state
 pub none_shortest : {S E : Type 0} (turn : S → S → Type 0) (ending : S → Option E) (first : S) (table : List S) → table ≡ []
     → AreShortest turn ending first table
 unfolding AreShortest
 none_shortest {S} turn ending first table e s c =
     nothing_in s (IsShortestEnding turn ending first s) (subst (λ (l : List S). Contains l s) e c)
 
+-- and none of its states has an ending
 pub none_end : {S E : Type 0} (ending : S → Option E) (has : E → Bool) (table : List S) → ((e : E) → has e ≡ false)
     → EndingsStand ending has table
 unfolding EndingsStand
 none_end ending has table none e h = absurd (let z : true ≡ false = sym h ∙ none e in cc)
 
+-- the endings of one layer more are there
 pub has_before_next : {S E : Type 0} (eq : E → E → Bool) (turn alike : S → S → Type 0) (ending : S → Option E) (first : S)
     (has more : E → Bool) (n : ℕ) (layer old new : List S) → EndsAlike eq alike ending → IsLayer turn alike first n layer
     → AreTaken ending has more old layer new → HasBefore turn ending first has n → HasBefore turn ending first more (n + 1)
@@ -119,6 +128,7 @@ has_before_next {S} {E} eq turn alike ending first has more n layer old new a l 
     (λ m lt s e r q. t.kept e (before m lt s e r q))
     (λ s e r q. (let z = l.covers s r in t.all z.0 e z.1 (a.alike_ends s z.0 z.2 ∙ q)))
 
+-- and the states that were taken of it end so first
 pub shortest_next : {S E : Type 0} (turn alike : S → S → Type 0) (ending : S → Option E) (first : S) (has more : E → Bool) (n : ℕ)
     (layer old new : List S) → IsLayer turn alike first n layer → AreTaken ending has more old layer new → HasBefore turn ending first has n
     → AreShortest turn ending first old → AreShortest turn ending first new

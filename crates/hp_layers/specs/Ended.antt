@@ -34,7 +34,8 @@ pub record IsShortestEnding {S E : Type 0} (turn : S → S → Type 0) (ending :
   pub shortest : (m : ℕ) (t : S) → m < turns → IsReached turn first m t → ending t ≡ Some how → ⊥
 
 -- each state that is reached in so many turns and has an ending has that of one in the table
-unfoldable pub HasEndings : {S E : Type 0} → (turn : S → S → Type 0) → (ending : S → Option E) → (first : S) → (table : List S) → (turns : ℕ) → Type 0
+unfoldable pub HasEndings : {S E : Type 0} → (turn : S → S → Type 0) → (ending : S → Option E) → (first : S) → (table : List S)
+    → (turns : ℕ) → Type 0
 HasEndings {S} {E} turn ending first table n =
     (s : S) (e : E) → IsReached turn first n s → ending s ≡ Some e → (t : S) × Contains table t × (ending t ≡ Some e)
 

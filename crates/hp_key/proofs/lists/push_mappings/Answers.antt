@@ -61,9 +61,10 @@ loop-preserved c =
     let before = c.loop.words.items in
     let more : c.push_mapping.new.words.items ≡ before ++ mapping_words m =
     c.in_ok-push_mapping.ensures
-    ∙ (λ i. before ++ mapping_words (record { base = (c.new-in-loop.ensures ∙ is) i; file = (place i).0; from = (place i).1; len = long i })) in
+    ∙ (λ i. before
+    ++ mapping_words (record { base = (c.new-in-loop.ensures ∙ is) i; file = (place i).0; from = (place i).1; len = long i })) in
     record {
-      written = one_more mapping_words c.args.words.now.items before c.push_mapping.new.words.items (length ms) ms k m no_mapping within refl
-          c.loop.invariant.written more;
+      written = one_more mapping_words c.args.words.now.items before c.push_mapping.new.words.items (length ms) ms k m no_mapping within
+          refl c.loop.invariant.written more;
       end = last ∙ sym (end_next 0 ms k no_mapping within);
     }

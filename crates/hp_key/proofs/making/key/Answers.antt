@@ -45,7 +45,8 @@ returns c =
       slots = c.in_ok-push_holders.ensures;
       locks = c.in_ok-push_holders-2.ensures;
       files = c.in_ok-push_files.ensures
-          ∙ ap (λ (files : List FileState). c.push_holders-2.new.words.items ++ counted (file_words p.bank.frames) files) c.deref.ensures.value;
+          ∙ ap (λ (files : List FileState). c.push_holders-2.new.words.items ++ counted (file_words p.bank.frames) files)
+          c.deref.ensures.value;
       spaces = c.in_ok-push_spaces.ensures
           ∙ ap (λ (spaces : List Table). c.push_files.new.words.items ++ counted space_words spaces) c.deref-2.ensures.value;
       last = c.in_ok-push_tasks.ensures;

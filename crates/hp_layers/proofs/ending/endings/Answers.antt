@@ -81,8 +81,8 @@ loop-turns-preserved g c =
     let more = contains eq c.take_endings.new.seen in
     let next : suc n ≡ n + 1 = omega arith in (
       subst (λ (k : ℕ). IsLayer turn alike c.args.first k c.in-Some.next.items) next
-          (next_is_layer (g.M.Turns.valid c.args.system.now) turn alike meets c.args.first n c.loop-turns.layer.items c.in-Some.next.items good
-          c.loop-turns.invariant.0
+          (next_is_layer (g.M.Turns.valid c.args.system.now) turn alike meets c.args.first n c.loop-turns.layer.items
+          c.in-Some.next.items good c.loop-turns.invariant.0
           (subst (λ (l : List _). AreNext turn alike l c.in-Some.next.items) c.deref.ensures.value
           (rw c.in-Some.is at c.in_ok-next.ensures))),
       c.in_ok-take_endings.ensures.stand,

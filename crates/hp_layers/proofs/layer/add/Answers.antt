@@ -29,7 +29,8 @@ returns-else-branch-clause-stand g c =
     let eq = g.M.Key.PartialEq.eq in
     let key_of = g.M.Turns.key_of c.args.system.now in
     subst (λ (keys : List _). KeysStand eq key_of (λ k. list_any (eq k) keys) c.args.next.now.items)
-    (sym (subst (λ (b : Bool). OnFalse b (c.insert.new.self.keys ≡ c.args.seen.now.keys)) c.if-branch.false c.in_ok-insert.ensures.unchanged))
+    (sym (subst (λ (b : Bool). OnFalse b (c.insert.new.self.keys ≡ c.args.seen.now.keys)) c.if-branch.false
+    c.in_ok-insert.ensures.unchanged))
     c.requires.stand
 
 pub returns-else-branch-clause-covered : goal.returns-else-branch-clause-covered
@@ -39,7 +40,8 @@ returns-else-branch-clause-covered g c =
     let alike = g.M.Turns.alike c.args.system.now in
     let there = true_from_not _ (sym c.in_ok-insert.ensures.added ∙ c.if-branch.false) in
     let has = contains eq c.args.seen.now in
-    stands_for eq key_of alike has c.args.next.now.items c.args.state (λ t k e. g.met.M.Turns.same_key c.args.system.now c.args.state t c.requires.state (are_valid _ _ c.requires.next t k) e)
+    stands_for eq key_of alike has c.args.next.now.items c.args.state
+    (λ t k e. g.met.M.Turns.same_key c.args.system.now c.args.state t c.requires.state (are_valid _ _ c.requires.next t k) e)
     c.requires.stand (subst (λ (k : _). has k ≡ true) c.in_ok-key.ensures there)
 
 pub returns-in_ok-push-clause-next : goal.returns-in_ok-push-clause-next

@@ -1,7 +1,8 @@
 use Rattle.std.proofs.Common.{arith, ◌≡◌, ◌∙◌, sym, ◌++◌, ◌∷◌, [], ℕ, suc, ◌+◌, refl, subst, List, length}
 use Rattle.std.proofs.lemmas.List.{nil_from_length}
 use Rattle.hp_layers.specs.Layers.{AreNext, AreValid, IsLayer, IsRight, MeetsAt, NoneBefore, NoneIsMet}
-use Rattle.hp_layers.proofs.Layering.{first_layer, layer_misses, layer_valid, never, next_is_layer, none_before_first, none_before_next, shortest}
+use Rattle.hp_layers.proofs.Layering.{first_layer, layer_misses, layer_valid, never, next_is_layer, none_before_first}
+use Rattle.hp_layers.proofs.Layering.{none_before_next, shortest}
 use Rattle.hp_layers.proofs.searching.search.Goals as goal
 
 pub loop-turns-init : goal.loop-turns-init
@@ -57,8 +58,8 @@ loop-turns-preserved g c =
     let n = c.loop-turns.turns in
     let next : suc n ≡ n + 1 = omega arith in (
       subst (λ (k : ℕ). IsLayer turn alike c.args.first k c.in-Some-2.next.items) next
-          (next_is_layer (g.M.Turns.valid c.args.system.now) turn alike meets c.args.first n c.loop-turns.layer.items c.in-Some-2.next.items good
-          c.loop-turns.invariant.0
+          (next_is_layer (g.M.Turns.valid c.args.system.now) turn alike meets c.args.first n c.loop-turns.layer.items
+          c.in-Some-2.next.items good c.loop-turns.invariant.0
           (subst (λ (l : List _). AreNext turn alike l c.in-Some-2.next.items) c.deref-in-loop-turns.ensures.value
           (rw c.in-Some-2.is at c.in_ok-next.ensures))),
       none_before_next turn meets c.args.first n c.loop-turns.invariant.1
