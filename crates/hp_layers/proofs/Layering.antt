@@ -1,12 +1,12 @@
 -- From layer to layer.
-use Rattle.std.proofs.Common.{arith, inl, inr, ◌≡◌, sym, ◌≤◌, ◌+◌, ◌∷◌, ◌⊎◌, [], ℕ, zero, suc, List, subst, length, below_more}
+use Rattle.std.proofs.Common.{arith, inl, inr, ◌≡◌, sym, ◌≤◌, ◌+◌, ◌∷◌, ◌⊎◌, [], ℕ, zero, suc, Bool, List, refl, subst, length, below_more}
 use Rattle.std.specs.Prelude.{slice_index_or}
 use Rattle.std.specs.List.{AllWithin}
 use Rattle.std.proofs.Math.Nat.{eq-or-lt_of_le}
 use Rattle.std.proofs.lemmas.Bool.{cases_lt}
 use Rattle.std.proofs.lemmas.List.Elements.{Contains-get_or, Contains-push_cases, Contains-push}
-use Rattle.hp_layers.specs.Layers.{AreNext, AreValid, IsAsGood, IsCovered, IsLayer, IsReached, IsShortest, MeetsAt, NoneBefore}
-use Rattle.hp_layers.specs.Layers.{NoneIsMet, NoneMeets}
+use Rattle.hp_layers.specs.Layers.{AreKeysOf, AreNext, AreReached, AreValid, IsAsGood, IsCovered, IsCrowded, IsLayer, IsReached, IsShortest, MeetsAt, NoneBefore}
+use Rattle.hp_layers.specs.Layers.{KeysStand, LacksRoom, NoneIsMet, NoneMeets}
 
 -- at none of the places a state meets it
 pub none_met : {S : Type 0} (meets : S → Type 0) (layer : List S) (n : ℕ) → length layer ≤ n → AllWithin (λ s. meets s → ⊥) layer 0 n
@@ -102,3 +102,33 @@ pub layer_valid : {S : Type 0} (valid : S → Type 0) (turn alike : S → S → 
     → ((x y : S) → valid x → turn x y → valid y) → valid first → IsLayer turn alike first n layer → AreValid valid layer
 unfolding AreValid
 layer_valid valid turn alike first n layer keeps v l s c = reached_valid valid turn first keeps v n s (l.reached s c)
+
+-- the keys of a layer are of states that are reached
+pub keys_reached : {S K : Type 0} (eq : K → K → Bool) (key_of : S → K) (turn alike : S → S → Type 0) (first : S) (n : ℕ) (keys : List K)
+    (layer : List S) → AreKeysOf eq key_of keys layer → IsLayer turn alike first n layer → AreReached eq key_of turn first n keys
+unfolding KeysStand
+keys_reached eq key_of turn alike first n keys layer k l = record {
+  distinct = k.counted.distinct;
+  each = λ key h. (let z = k.stand key h in (z.0, l.reached z.0 z.1, z.2));
+}
+
+-- so a layer and what lacks room behind it are too many
+pub crowded : {S K : Type 0} (eq : K → K → Bool) (key_of : S → K) (turn alike : S → S → Type 0) (first : S) (limit room n : ℕ)
+    (keys : List K) (layer : List S) → AreKeysOf eq key_of keys layer → IsLayer turn alike first n layer
+    → LacksRoom eq key_of turn layer room → limit ≤ length layer + room → IsCrowded eq key_of turn first limit (n + 1)
+unfolding IsReached
+crowded {S} eq key_of turn alike first limit room n keys layer k l more wide = record {
+  before = n;
+  next = refl;
+  some = keys;
+  others = more.keys;
+  here = keys_reached eq key_of turn alike first n keys layer k l;
+  behind = record {
+    distinct = more.distinct;
+    each = λ key h. (let z = more.each key h in (z.1, next z.1 (z.0, l.reached z.0 z.2, z.3), z.4));
+  };
+  many = (let c = k.counted.count in let m = more.many in omega (arith, c, m, wide));
+}
+  where
+    next : (t : S) → (before : S) × IsReached turn first n before × turn before t → IsReached turn first (n + 1) t
+    next t r = (let e : n + 1 ≡ suc n = omega arith in subst (λ (m : ℕ). IsReached turn first m t) (sym e) r)

@@ -2,7 +2,8 @@
 use Rattle.std.specs.Prelude.{◌≡◌, ◌<◌, ◌⊎◌, ℕ, Bool, true, false, List, Contains, Option, Some}
 use Rattle.hp_layers.specs.declared.ending.EndingTable.{EndingTable}
 use Rattle.hp_layers.specs.declared.ending.EndingTable.TheVariants.{Whole, Cut}
-use Rattle.hp_layers.specs.Layers.{IsReached}
+use Rattle.hp_layers.specs.declared.limits.Limits.{Limits}
+use Rattle.hp_layers.specs.Layers.{IsCrowded, IsReached}
 
 -- what is alike ends alike, and endings that are equal are one
 pub record EndsAlike {S E : Type 0} (eq : E → E → Bool) (alike : S → S → Type 0) (ending : S → Option E) : Type 0 where
@@ -49,3 +50,10 @@ AreRight turn ending first (Whole states) =
     ((n : ℕ) → HasEndings turn ending first states.items n) × AreShortest turn ending first states.items
 AreRight turn ending first (Cut states turns) =
     ((n : ℕ) → n < turns → HasEndings turn ending first states.items n) × AreShortest turn ending first states.items
+
+-- endings are cut where so many turns are made as the limit, or where there are too many states
+unfoldable pub AreCutAtLimits : {S K : Type 0} → (eq : K → K → Bool) → (key_of : S → K) → (turn : S → S → Type 0) → (first : S) → Limits
+    → EndingTable S → Type 0
+AreCutAtLimits eq key_of turn first limits (Whole states) = Unit {0}
+AreCutAtLimits eq key_of turn first limits (Cut states turns) =
+    (turns ≡ limits.turns) ⊎ IsCrowded eq key_of turn first limits.states turns

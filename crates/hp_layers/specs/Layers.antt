@@ -1,5 +1,7 @@
 -- Layers of states: those that are reached in exactly so many turns, up to states that are as good.
-use Rattle.std.specs.Prelude.{◌≡◌, ◌<◌, ◌++◌, ◌∷◌, ◌⊎◌, [], ℕ, zero, suc, Bool, true, List, Contains, length, slice_index_or}
+use Rattle.std.specs.Prelude.{◌≡◌, ◌<◌, ◌+◌, ◌++◌, ◌∷◌, ◌⊎◌, [], ℕ, zero, suc, Bool, true, List, Contains, length, slice_index_or}
+use Rattle.std.specs.List.{IsDistinct, list_any}
+use Rattle.hp_layers.specs.declared.limits.Limits.{Limits}
 use Rattle.hp_layers.specs.declared.verdict.Verdict.{Verdict}
 use Rattle.hp_layers.specs.declared.verdict.Verdict.TheVariants.{Never, Met, Cut}
 
@@ -34,6 +36,16 @@ AreValid {S} valid states = (s : S) → Contains states s → valid s
 unfoldable pub KeysStand : {S K : Type 0} → (eq : K → K → Bool) → (key_of : S → K) → (has : K → Bool) → List S → Type 0
 KeysStand {S} {K} eq key_of has states = (k : K) → has k ≡ true → (t : S) × Contains states t × (eq (key_of t) k ≡ true)
 
+-- no two of the keys are equal, and there are as many as states
+pub record AreCounted {S K : Type 0} (eq : K → K → Bool) (keys : List K) (states : List S) : Type 0 where
+  pub distinct : IsDistinct eq keys
+  pub count : length keys ≡ length states
+
+-- and each of them is that of one of the states
+pub record AreKeysOf {S K : Type 0} (eq : K → K → Bool) (key_of : S → K) (keys : List K) (states : List S) : Type 0 where
+  pub counted : AreCounted eq keys states
+  pub stand : KeysStand eq key_of (λ k. list_any (eq k) keys) states
+
 -- the state was added at the end, or nothing was
 abbrev pub AddsSome : {S : Type 0} → (old : List S) → S → (new : List S) → Type 0
 AddsSome old s new = (new ≡ old) ⊎ (new ≡ old ++ s ∷ [])
@@ -48,6 +60,13 @@ pub record AddsAll {S : Type 0} (alike : S → S → Type 0) (old states new : L
 pub record AreNext {S : Type 0} (turn alike : S → S → Type 0) (states next : List S) : Type 0 where
   pub some : (t : S) → Contains next t → (s : S) × Contains states s × turn s t
   pub all : (s t : S) → Contains states s → turn s t → IsCovered alike next t
+
+-- There are more keys than there is room for, no two of which are equal, each of a state that comes after one of those.
+pub record LacksRoom {S K : Type 0} (eq : K → K → Bool) (key_of : S → K) (turn : S → S → Type 0) (states : List S) (room : ℕ) : Type 0 where
+  pub keys : List K
+  pub distinct : IsDistinct eq keys
+  pub many : room < length keys
+  pub each : (k : K) → list_any (eq k) keys ≡ true → (s t : S) × Contains states s × turn s t × (eq (key_of t) k ≡ true)
 
 -- these are reached in so many turns, and cover all that are
 pub record IsLayer {S : Type 0} (turn alike : S → S → Type 0) (first : S) (turns : ℕ) (layer : List S) : Type 0 where
@@ -82,3 +101,27 @@ unfoldable pub IsRight : {S : Type 0} → (turn : S → S → Type 0) → (meets
 IsRight turn meets first Never = (turns : ℕ) → NoneMeets turn meets first turns
 IsRight turn meets first (Met s turns) = IsShortest turn meets first s turns
 IsRight turn meets first (Cut turns) = NoneBefore turn meets first turns
+
+-- no two of these keys are equal, and each is that of a state that is reached in exactly so many turns
+pub record AreReached {S K : Type 0} (eq : K → K → Bool) (key_of : S → K) (turn : S → S → Type 0) (first : S) (turns : ℕ) (keys : List K)
+    : Type 0 where
+  pub distinct : IsDistinct eq keys
+  pub each : (k : K) → list_any (eq k) keys ≡ true → (s : S) × IsReached turn first turns s × (eq (key_of s) k ≡ true)
+
+-- of the states that are reached in exactly so many turns, and in one turn fewer, there are more keys than the limit
+pub record IsCrowded {S K : Type 0} (eq : K → K → Bool) (key_of : S → K) (turn : S → S → Type 0) (first : S) (limit turns : ℕ) : Type 0 where
+  pub before : ℕ
+  pub next : turns ≡ before + 1
+  pub some : List K
+  pub others : List K
+  pub here : AreReached eq key_of turn first before some
+  pub behind : AreReached eq key_of turn first turns others
+  pub many : limit < length some + length others
+
+-- a search is cut where it has made as many turns as the limit, or where there are too many states
+unfoldable pub IsCutAtLimits : {S K : Type 0} → (eq : K → K → Bool) → (key_of : S → K) → (turn : S → S → Type 0) → (first : S) → Limits
+    → Verdict S → Type 0
+IsCutAtLimits eq key_of turn first limits Never = Unit {0}
+IsCutAtLimits eq key_of turn first limits (Met s turns) = Unit {0}
+IsCutAtLimits eq key_of turn first limits (Cut turns) =
+    (turns ≡ limits.turns) ⊎ IsCrowded eq key_of turn first limits.states turns

@@ -1,7 +1,7 @@
 //! All endings of runs, with a shortest run for each.
 ghost use Rattle.std.specs.Prelude.{◌≡◌, IfOk, OnOk, Option};
 ghost use Rattle.std.specs.HashSet.{contains};
-ghost use Rattle.hp_layers.specs.Ended.{AreRight, AreTaken, EndingsStand, EndsAlike, TakesOne};
+ghost use Rattle.hp_layers.specs.Ended.{AreCutAtLimits, AreRight, AreTaken, EndingsStand, EndsAlike, TakesOne};
 
 use crate::layer::next_layer;
 use crate::limits::Limits;
@@ -86,7 +86,9 @@ pub fn endings<M: Ends>(
     progress: &mut impl Progress,
 ) -> Result<EndingTable<M::State>, AllocError>
     requires { M.valid system.now first }
-    ensures { IfOk result (AreRight (M.turn system.now) (M.ending_of system.now) first) }
+    ensures right { IfOk result (AreRight (M.turn system.now) (M.ending_of system.now) first) }
+    // It doesn't give up before.
+    ensures cut { IfOk result (AreCutAtLimits M.Key.eq (M.key_of system.now) (M.turn system.now) first limits) }
 {
     let mut seen = HashSet::new(alloc);
     let mut states = Vec::new(alloc);

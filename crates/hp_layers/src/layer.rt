@@ -1,7 +1,8 @@
 //! One layer from the one before it.
-ghost use Rattle.std.specs.Prelude.{◌≡◌, ◌++◌, ◌⊎◌, ◌∷◌, [], ◌<◌, IfOk, IfSome, None, OnOk};
+ghost use Rattle.std.specs.Prelude.{◌≡◌, ◌++◌, ◌⊎◌, ◌∷◌, [], ◌<◌, List, IfNone, IfOk, IfSome, None, OnOk};
 ghost use Rattle.std.specs.HashSet.{contains};
-ghost use Rattle.hp_layers.specs.Layers.{AddsAll, AddsSome, AreNext, AreValid, IsCovered, KeysStand, MeetsAt, NoneIsMet};
+ghost use Rattle.hp_layers.specs.Layers.{AddsAll, AddsSome, AreCounted, AreKeysOf, AreNext, AreValid, IsCovered, KeysStand, LacksRoom};
+ghost use Rattle.hp_layers.specs.Layers.{MeetsAt, NoneIsMet};
 
 use crate::turns::Turns;
 use std::alloc::{AllocError, Global};
@@ -18,8 +19,10 @@ fn add<M: Turns>(
     requires state { M.valid system.now state }
     requires next { AreValid (M.valid system.now) next.old.items }
     requires stand { KeysStand (M.Key.eq) (M.key_of system.now) (contains M.Key.eq seen.old) next.old.items }
+    requires counted { AreCounted M.Key.eq seen.old.keys next.old.items }
     ensures next { OnOk result (AreValid (M.valid system.now) next.new.items) }
     ensures stand { OnOk result (KeysStand (M.Key.eq) (M.key_of system.now) (contains M.Key.eq seen.new) next.new.items) }
+    ensures counted { OnOk result (AreCounted M.Key.eq seen.new.keys next.new.items) }
     ensures covered { OnOk result (IsCovered (M.alike system.now) next.new.items state) }
     ensures grows { OnOk result (AddsSome next.old.items state next.new.items) }
 {
@@ -41,8 +44,10 @@ fn add_all<M: Turns>(
     requires states { AreValid (M.valid system.now) states.items }
     requires next { AreValid (M.valid system.now) next.old.items }
     requires stand { KeysStand (M.Key.eq) (M.key_of system.now) (contains M.Key.eq seen.old) next.old.items }
+    requires counted { AreCounted M.Key.eq seen.old.keys next.old.items }
     ensures next { OnOk result (AreValid (M.valid system.now) next.new.items) }
     ensures stand { OnOk result (KeysStand (M.Key.eq) (M.key_of system.now) (contains M.Key.eq seen.new) next.new.items) }
+    ensures counted { OnOk result (AreCounted M.Key.eq seen.new.keys next.new.items) }
     ensures added { OnOk result (AddsAll (M.alike system.now) next.old.items states.items next.new.items) }
 {
     let mut left = states;
@@ -60,7 +65,10 @@ pub(crate) fn next_layer<M: Turns>(
     room: usize,
 ) -> Result<Option<Vec<M::State>>, AllocError>
     requires layer { AreValid (M.valid system.now) layer.now }
-    ensures { IfOk result (λ next. IfSome next (λ states. AreNext (M.turn system.now) (M.alike system.now) layer.now states.items)) }
+    ensures next { IfOk result (λ next. IfSome next (λ states. AreNext (M.turn system.now) (M.alike system.now) layer.now states.items)) }
+    ensures keys { IfOk result (λ next. IfSome next (λ states.
+        (keys : List M.Key) × AreKeysOf M.Key.eq (M.key_of system.now) keys states.items)) }
+    ensures none { IfOk result (λ next. IfNone next (LacksRoom M.Key.eq (M.key_of system.now) (M.turn system.now) layer.now room)) }
 {
     let mut seen = HashSet::new(alloc);
     let mut next = Vec::new(alloc);

@@ -1,6 +1,6 @@
 //! The search, layer by layer.
 ghost use Rattle.std.specs.Prelude.{IfOk};
-ghost use Rattle.hp_layers.specs.Layers.{IsRight};
+ghost use Rattle.hp_layers.specs.Layers.{IsCutAtLimits, IsRight};
 
 use crate::layer::{first_met, next_layer};
 use crate::limits::Limits;
@@ -18,7 +18,9 @@ pub fn search<M: Turns>(
     progress: &mut impl Progress,
 ) -> Result<Verdict<M::State>, AllocError>
     requires { M.valid system.now first }
-    ensures { IfOk result (IsRight (M.turn system.now) (M.meets system.now) first) }
+    ensures right { IfOk result (IsRight (M.turn system.now) (M.meets system.now) first) }
+    // It doesn't give up before.
+    ensures cut { IfOk result (IsCutAtLimits M.Key.eq (M.key_of system.now) (M.turn system.now) first limits) }
 {
     let mut layer = Vec::new(alloc);
     layer.push(first)?;

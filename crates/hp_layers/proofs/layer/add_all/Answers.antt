@@ -10,6 +10,7 @@ loop-state-preserved g c = (
   c.in_ok-add.ensures.next,
   valid_before (g.M.Turns.valid c.args.system.now) c.loop-state.left.items c.pop.new.self.items c.in-Some.state c.in-Some.ensures.items
       c.loop-state.invariant.3,
+  c.in_ok-add.ensures.counted,
 )
 
 pub add-requires-clause-state : goal.add-requires-clause-state
