@@ -5,7 +5,8 @@ use Rattle.std.specs.List.{AllWithin}
 use Rattle.std.proofs.Math.Nat.{eq-or-lt_of_le}
 use Rattle.std.proofs.lemmas.Bool.{cases_lt}
 use Rattle.std.proofs.lemmas.List.Elements.{Contains-get_or, Contains-push_cases, Contains-push}
-use Rattle.hp_layers.specs.Layers.{AreKeysOf, AreNext, AreReached, AreValid, IsAsGood, IsCovered, IsCrowded, IsLayer, IsReached, IsShortest, MeetsAt, NoneBefore}
+use Rattle.hp_layers.specs.Layers.{AreKeysOf, AreNext, AreReached, AreValid, IsAsGood, IsCovered, IsCrowded, IsLayer, IsReached}
+use Rattle.hp_layers.specs.Layers.{IsShortest, MeetsAt, NoneBefore}
 use Rattle.hp_layers.specs.Layers.{KeysStand, LacksRoom, NoneIsMet, NoneMeets}
 
 -- at none of the places a state meets it

@@ -109,7 +109,8 @@ pub record AreReached {S K : Type 0} (eq : K → K → Bool) (key_of : S → K) 
   pub each : (k : K) → list_any (eq k) keys ≡ true → (s : S) × IsReached turn first turns s × (eq (key_of s) k ≡ true)
 
 -- of the states that are reached in exactly so many turns, and in one turn fewer, there are more keys than the limit
-pub record IsCrowded {S K : Type 0} (eq : K → K → Bool) (key_of : S → K) (turn : S → S → Type 0) (first : S) (limit turns : ℕ) : Type 0 where
+pub record IsCrowded {S K : Type 0} (eq : K → K → Bool) (key_of : S → K) (turn : S → S → Type 0) (first : S)
+    (limit turns : ℕ) : Type 0 where
   pub before : ℕ
   pub next : turns ≡ before + 1
   pub some : List K

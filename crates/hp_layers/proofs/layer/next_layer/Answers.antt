@@ -5,7 +5,8 @@ use Rattle.std.proofs.lemmas.List.Elements.{Contains-get_or}
 use Rattle.std.specs.List.{list_any}
 use Rattle.std.specs.HashSet.{contains}
 use Rattle.hp_layers.specs.Layers.{AreNext}
-use Rattle.hp_layers.proofs.Covering.{after_one, lacks_room, are_valid, next_of_none, next_on, none_counted, none_stand, none_valid, valid_after}
+use Rattle.hp_layers.proofs.Covering.{after_one, are_valid, lacks_room, next_of_none, next_on, none_counted, none_stand, none_valid}
+use Rattle.hp_layers.proofs.Covering.{valid_after}
 use Rattle.hp_layers.proofs.layer.next_layer.Goals as goal
 
 pub loop-state-init : goal.loop-state-init
@@ -59,7 +60,8 @@ returns-then-len-room-clause-none g c =
     let state = c.state-item.result in
     let turn = g.M.Turns.turn c.args.system.now in
     let alike = g.M.Turns.alike c.args.system.now in
-    let there = subst (Contains layer) (sym c.state-item.is) (Contains-get_or layer c.loop-state.state-index state c.loop-state-test.true) in
+    let there = subst (Contains layer) (sym c.state-item.is)
+    (Contains-get_or layer c.loop-state.state-index state c.loop-state-test.true) in
     lacks_room g.M.Key.PartialEq.eq (g.M.Turns.key_of c.args.system.now) turn layer c.add_all.new.next.items c.add_all.new.seen.keys
     c.args.room c.in_ok-add_all.ensures.counted c.in_ok-add_all.ensures.stand (grind (arith, c.if-len-room.true, c.len.ensures))
     (λ t. after_one turn alike layer c.loop-state.next.items c.in_ok-after.after.items c.add_all.new.next.items c.loop-state.state-index

@@ -43,11 +43,12 @@ returns-then-is_empty g c =
 pub returns-in-Some : goal.returns-in-Some
 unfolding IsRight IsCutAtLimits
 returns-in-Some g c =
+    let meets = g.M.Turns.meets c.args.system.now in
     record {
-      right = shortest (g.M.Turns.turn c.args.system.now) (g.M.Turns.alike c.args.system.now) (g.M.Turns.meets c.args.system.now) c.args.first
+      right = shortest (g.M.Turns.turn c.args.system.now) (g.M.Turns.alike c.args.system.now) meets c.args.first
           c.loop-turns.turns c.loop-turns.layer.items c.in-Some.place c.swap_remove-state.result c.loop-turns.invariant.0
           c.loop-turns.invariant.1
-          (subst (λ (l : List _). MeetsAt (g.M.Turns.meets c.args.system.now) l c.in-Some.place) c.deref.ensures.value c.in-Some.ensures.met)
+          (subst (λ (l : List _). MeetsAt meets l c.in-Some.place) c.deref.ensures.value c.in-Some.ensures.met)
           c.swap_remove-state.ensures.value;
       cut = tt;
     }
@@ -98,7 +99,8 @@ unfolding IsRight IsCutAtLimits
 returns g c =
     let e : c.loop-turns.turns ≡ c.args.limits.turns = omega (arith, c.loop-turns.auto, c.loop-turns-test.false) in
     record {
-      right = subst (NoneBefore (g.M.Turns.turn c.args.system.now) (g.M.Turns.meets c.args.system.now) c.args.first) e c.loop-turns.invariant.1;
+      right = subst (NoneBefore (g.M.Turns.turn c.args.system.now) (g.M.Turns.meets c.args.system.now) c.args.first) e
+          c.loop-turns.invariant.1;
       cut = inl refl;
     }
 
