@@ -13,6 +13,7 @@ mod events;
 mod hands;
 pub mod holding;
 mod in_flight;
+mod inside;
 mod laws;
 mod opening;
 mod owing;

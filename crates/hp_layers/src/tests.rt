@@ -1,0 +1,154 @@
+//! A counter that goes up to three.
+ghost use Rattle.std.specs.Prelude.{◌≡◌, ◌≤◌};
+ghost use Rattle.hp_layers.specs.Counted.{end_of, ends_alike_counts};
+ghost use Rattle.hp_layers.specs.Counted.{Goes, as_good_counts, same_count};
+
+use crate::ending::{EndingTable, Ends, endings};
+use crate::limits::Limits;
+use crate::progress::Progress;
+use crate::searching::search;
+use crate::turns::Turns;
+use crate::verdict::Verdict;
+use std::alloc::{AllocError, Global};
+
+/// Where the counter is to stand.
+#[derive(Drop)]
+struct Wanted {
+    count: u32,
+}
+
+impl Turns for Wanted {
+    type State = u32;
+
+    type Key = u32;
+
+    ghost valid = { λ m s. s ≤ 3 };
+
+    ghost turn = { λ m s t. Goes s t };
+
+    ghost meets = { λ m s. s ≡ m.count };
+
+    ghost alike = { λ m s t. s ≡ t };
+
+    ghost key_of = { λ m s. s };
+
+    fn after(&self, alloc: Global, state: &u32) -> Result<Vec<u32>, AllocError> {
+        let mut next = Vec::new(alloc);
+        if *state >= 3 {
+            return Ok(next);
+        }
+        next.push(*state + 1)?;
+        Ok(next)
+    }
+
+    fn key(&self, alloc: Global, state: &u32) -> Result<u32, AllocError> {
+        let _ = alloc;
+        Ok(*state)
+    }
+
+    fn is_met(&self, state: &u32) -> bool {
+        *state == self.count
+    }
+
+    ghost as_good = { λ m. as_good_counts m.count };
+
+    ghost same_key = { λ m. same_count };
+}
+
+impl Ends for Wanted {
+    type Ending = u32;
+
+    ghost ending_of = { λ m s. end_of s };
+
+    fn ending(&self, alloc: Global, state: &u32) -> Result<Option<u32>, AllocError> {
+        let _ = alloc;
+        if *state >= 3 {
+            return Ok(Some(*state));
+        }
+        Ok(None)
+    }
+
+    ghost ends_alike = { λ m. ends_alike_counts };
+}
+
+/// How many layers were told, and the last of them.
+#[derive(Drop)]
+struct Told {
+    layers: u32,
+    last: u32,
+}
+
+impl Progress for Told {
+    fn layer(&mut self, turns: u32, states: usize) {
+        let _ = states;
+        self.layers = self.layers.saturating_add(1);
+        self.last = turns;
+    }
+}
+
+/// What a search says of a count: where it stands then, or how far it came, or that it never does.
+fn found(alloc: Global, count: u32, limits: Limits) -> Result<(u32, u32), AllocError> {
+    let mut told = Told { layers: 0, last: 0 };
+    match search(alloc, &Wanted { count }, 0, limits, &mut told)? {
+        Verdict::Met { state, turns } => Ok((state, turns)),
+        Verdict::Never => Ok((100, told.layers)),
+        Verdict::Cut { turns } => Ok((200, turns)),
+    }
+}
+
+#[test]
+fn counts(rt: HostRuntime) {
+    let wide = Limits {
+        turns: 9,
+        states: 9,
+    };
+    let met = found(rt.alloc(), 2, wide);
+    assert!(rt; matches!(met, Ok((2, 2))));
+    let never = found(rt.alloc(), 4, wide);
+    assert!(rt; matches!(never, Ok((100, 4))));
+}
+
+#[test]
+fn limits_run_out(rt: HostRuntime) {
+    let few_turns = Limits {
+        turns: 2,
+        states: 9,
+    };
+    let cut = found(rt.alloc(), 3, few_turns);
+    assert!(rt; matches!(cut, Ok((200, 2))));
+    let few_states = Limits {
+        turns: 9,
+        states: 1,
+    };
+    let narrow = found(rt.alloc(), 3, few_states);
+    assert!(rt; matches!(narrow, Ok((200, 1))));
+}
+
+/// The only ending that there is, if the table is whole and has one.
+fn only_ending(alloc: Global, limits: Limits) -> Result<Option<u32>, AllocError> {
+    let mut told = Told { layers: 0, last: 0 };
+    match endings(alloc, &Wanted { count: 2 }, 0, limits, &mut told)? {
+        EndingTable::Whole(states) => Ok(if states.len() == 1 {
+            Some(states[0])
+        } else {
+            None
+        }),
+        EndingTable::Cut { .. } => Ok(None),
+    }
+}
+
+#[test]
+fn ends(rt: HostRuntime) {
+    let wide = Limits {
+        turns: 9,
+        states: 9,
+    };
+    let ended = only_ending(rt.alloc(), wide);
+    assert!(rt; matches!(ended, Ok(Some(3))));
+    let few_turns = Limits {
+        turns: 2,
+        states: 9,
+    };
+    let cut = only_ending(rt.alloc(), few_turns);
+    assert!(rt; matches!(cut, Ok(None)));
+}
