@@ -1,0 +1,5 @@
+pub mod Pages
+pub mod Adding
+pub mod Twice
+pub mod AllKinds
+pub mod Ordered
