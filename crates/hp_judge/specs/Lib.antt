@@ -2,3 +2,4 @@ pub mod Lines
 pub mod Counts
 pub mod Findings
 pub mod Frames
+pub mod Text

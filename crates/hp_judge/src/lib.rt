@@ -9,9 +9,11 @@ mod finding;
 mod frames;
 mod judging;
 mod lines;
+mod telling;
 
 pub use finding::{Clause, Finding};
 pub use judging::judge;
+pub use telling::write_findings;
 
 #[cfg(test)]
 mod tests;
