@@ -17,6 +17,14 @@ frames_of p = p.free ++ p.retired ++ p.hands ++ map (λ page. page.2) p.pages
 abbrev pub CanCount : PlacesState → Type 0
 CanCount p = AllKeep p Region × AllKeep p Page
 
+-- the reserve count is below zero, or above the free frames
+abbrev pub IsAboveFree : Counts → PlacesState → Type 0
+IsAboveFree c p = (c.resv <ℤ pos 0) ⊎ (pos (length p.free) <ℤ c.resv)
+
+-- the used count is below zero, or above the quota
+abbrev pub IsAboveQuota : Counts → Type 0
+IsAboveQuota c = (c.used <ℤ pos 0) ⊎ IsSomeAnd c.quota (λ most. pos most <ℤ c.used)
+
 -- the line of some number doesn't keep the clause
 unfoldable pub IsUnkept : PlacesState → Clause → Finding → Type 0
 IsUnkept p clause f = (n : ℕ) × (f ≡ finding.Line clause n) × (n < lines_of p clause) × (¬ Keeps p clause n)
@@ -26,9 +34,9 @@ abbrev pub IsFinding : Counts → PlacesState → Finding → Type 0
 IsFinding c p (finding.Line clause n) = (n < lines_of p clause) × (¬ Keeps p clause n)
 IsFinding c p (finding.Place x) = 2 ≤ count_by (λ frame. frame == x) (frames_of p)
 IsFinding c p (finding.Count wanted) = CanCount p × (wanted ≡ wanted_count c p) × (c.resv ≢ wanted)
-IsFinding c p finding.Free = pos (length p.free) <ℤ c.resv
+IsFinding c p finding.Free = IsAboveFree c p
 IsFinding c p (finding.Used wanted) = CanCount p × (wanted ≡ wanted_used c p) × (c.used ≢ wanted)
-IsFinding c p finding.Quota = IsSomeAnd c.quota (λ most. pos most <ℤ c.used)
+IsFinding c p finding.Quota = IsAboveQuota c
 
 -- the same by kinds: of lines, ..
 unfoldable pub IsLineFinding : PlacesState → Finding → Type 0
@@ -42,7 +50,7 @@ IsCountFinding c p f =
 -- .. and of counts above what they may be
 unfoldable pub IsBoundFinding : Counts → PlacesState → Finding → Type 0
 IsBoundFinding c p f =
-    ((f ≡ finding.Free) × (pos (length p.free) <ℤ c.resv)) ⊎ ((f ≡ finding.Quota) × IsSomeAnd c.quota (λ most. pos most <ℤ c.used))
+    ((f ≡ finding.Free) × IsAboveFree c p) ⊎ ((f ≡ finding.Quota) × IsAboveQuota c)
 
 -- these are all findings of which P holds, behind those before
 pub record Adds (P : Finding → Type 0) (before after : List Finding) : Type 0 where

@@ -16,9 +16,9 @@ finding_text (finding.Line Agree n) = codes "translation " ++ (decimal n ++ code
 finding_text (finding.Line Size n) = codes "translation " ++ (decimal n ++ codes ": at or above the size of an unlocked file")
 finding_text (finding.Place x) = codes "frame " ++ (decimal x ++ codes ": at two places")
 finding_text (finding.Count wanted) = codes "resv: should be " ++ signed_decimal wanted
-finding_text finding.Free = codes "resv: above the free frames"
+finding_text finding.Free = codes "resv: below zero, or above the free frames"
 finding_text (finding.Used wanted) = codes "used: should be " ++ signed_decimal wanted
-finding_text finding.Quota = codes "used: above the quota"
+finding_text finding.Quota = codes "used: below zero, or above the quota"
 
 abbrev pub finding_line : Finding → List ℕ
 finding_line f = finding_text f ++ 10 ∷ []

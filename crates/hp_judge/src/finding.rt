@@ -26,10 +26,10 @@ pub enum Finding {
     /// The reserve count isn't this: the reserved indices without a page, and what is owed. It is looked for where all regions and
     /// pages are right.
     Count { wanted: i128 },
-    /// The reserve count is above the free frames.
+    /// The reserve count is below zero, or above the free frames.
     Free,
     /// The used count isn't this: the reserved indices, and what is owed. It is looked for where all regions and pages are right.
     Used { wanted: i128 },
-    /// The used count is above the quota.
+    /// The used count is below zero, or above the quota.
     Quota,
 }

@@ -1,7 +1,7 @@
 //! All that is wrong with a picture.
 ghost use Rattle.std.specs.Prelude.{◌≡◌, ◌≢◌, ◌↔◌, ◌<ℤ◌, pos, All, Contains, None, IfOk, IfSome, IsSomeAnd, IsTrue, OnOk, length};
 ghost use Rattle.hp_judge.specs.Counts.{wanted_count, wanted_used};
-ghost use Rattle.hp_judge.specs.Findings.{Adds, AddsCounts, AddsIf, AddsSome, IsBoundFinding, IsCountFinding, IsFinding, IsLineFinding};
+ghost use Rattle.hp_judge.specs.Findings.{Adds, AddsCounts, AddsIf, AddsSome, IsAboveFree, IsAboveQuota, IsBoundFinding, IsCountFinding, IsFinding, IsLineFinding};
 ghost use Rattle.hp_judge.specs.Lines.{AllKeep, HasExactly};
 ghost use Rattle.hp_judge.specs.declared.finding.Clause.TheVariants as Clause;
 ghost use Rattle.hp_judge.specs.declared.finding.Finding.{Finding};
@@ -130,24 +130,31 @@ fn add_counts_that_can_be(
     Ok(())
 }
 
-// Whether the reserve count is above the free frames.
+// Whether the reserve count is below zero, or above the free frames.
 fn is_above_free(counts: Counts, places: &Places) -> bool
-    ensures { IsTrue result ↔ (pos (length places.now.free) <ℤ counts.resv) }
+    ensures { IsTrue result ↔ IsAboveFree counts places.now }
 {
-    i128::from(counts.resv) > places.free.len() as i128
+    counts.resv < 0 || i128::from(counts.resv) > places.free.len() as i128
 }
 
-// Whether the used count is above the quota.
-fn is_above_quota(counts: Counts) -> bool
-    ensures { IsTrue result ↔ IsSomeAnd counts.quota (λ most. pos most <ℤ counts.used) }
+// Whether the used count is above the quota, if there is one.
+fn is_above(used: i64, quota: Option<u32>) -> bool
+    ensures { IsTrue result ↔ IsSomeAnd quota (λ most. pos most <ℤ used) }
 {
-    match counts.quota {
-        Some(most) => counts.used > i64::from(most),
+    match quota {
+        Some(most) => used > i64::from(most),
         None => false,
     }
 }
 
-// Adds a finding for each count that is above what it may be.
+// Whether the used count is below zero, or above the quota.
+fn is_above_quota(counts: Counts) -> bool
+    ensures { IsTrue result ↔ IsAboveQuota counts }
+{
+    counts.used < 0 || is_above(counts.used, counts.quota)
+}
+
+// Adds a finding for each count that is below zero, or above what it may be.
 fn add_bounds(
     counts: Counts,
     places: &Places,

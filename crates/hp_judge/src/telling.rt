@@ -51,9 +51,9 @@ impl fmt::Display for Finding {
             ),
             Finding::Place { frame } => write!(f, "frame {frame}: at two places"),
             Finding::Count { wanted } => write!(f, "resv: should be {wanted}"),
-            Finding::Free => write!(f, "resv: above the free frames"),
+            Finding::Free => write!(f, "resv: below zero, or above the free frames"),
             Finding::Used { wanted } => write!(f, "used: should be {wanted}"),
-            Finding::Quota => write!(f, "used: above the quota"),
+            Finding::Quota => write!(f, "used: below zero, or above the quota"),
         }
     }
 }
