@@ -1,7 +1,9 @@
 //! The commands that there are, as a table, and the command line that clap makes of it.
 use crate::choices::*;
 use crate::options::{Choice, with_choices};
-use crate::texts::{FINDS, LOOSE, MINIMIZES, RACES, SCRIPTS, STEPS, TRACES, WORKLOADS};
+use crate::texts::{
+    FINDS, LOOSE, MINIMIZES, PICTURES, RACES, SCRIPTS, STEPS, TRACES, WORKLOADS,
+};
 use clap::error::ErrorKind;
 use clap::{Arg, Command, Error};
 use std::alloc::{AllocError, Global};
@@ -112,6 +114,15 @@ const FORMAT: Row = Row {
     choices: &[],
 };
 
+const AUDIT_STATE: Row = Row {
+    name: "audit",
+    about: "Audits a pool's state: prints all that is wrong with it, also with a kernel's",
+    usage: "hugepool audit [FILE]",
+    told: PICTURES,
+    operand: Operand::File,
+    choices: &[],
+};
+
 const STEP: Row = Row {
     name: "step",
     about: "Drives a pool line by line: each event is answered at once, and can be undone",
@@ -151,6 +162,7 @@ enum Name {
     Find,
     Minimize,
     Format,
+    Audit,
     Step,
     Race,
     Work,
@@ -166,6 +178,7 @@ const NAMES: &[Name] = &[
     Name::Find,
     Name::Minimize,
     Name::Format,
+    Name::Audit,
     Name::Step,
     Name::Race,
     Name::Work,
@@ -183,6 +196,7 @@ fn row_of(name: Name) -> Row {
         Name::Find => FIND,
         Name::Minimize => MINIMIZE,
         Name::Format => FORMAT,
+        Name::Audit => AUDIT_STATE,
         Name::Step => STEP,
         Name::Race => RACE,
         Name::Work => WORK,

@@ -133,6 +133,7 @@ fn request(alloc: Global, name: &str, given: &ArgMatches) -> Result<Request, Err
             alloc, given, &MINIMIZE,
         )?)),
         "format" => Request::Trace(TraceRequest::Format),
+        "audit" => Request::Audit,
         "step" => Request::Pool(PoolRequest::Step),
         "race" => Request::Script(racing(given)),
         "work" => Request::Pool(working(alloc, given)?),

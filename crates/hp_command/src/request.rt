@@ -89,6 +89,8 @@ pub enum Request {
     Trace(TraceRequest),
     Script(ScriptRequest),
     Pool(PoolRequest),
+    /// To read a pool's state as text, and write all that is wrong with it.
+    Audit,
 }
 
 /// What a command reads.

@@ -44,6 +44,22 @@ A strict trace stays as it is. If a phase can't be reached, since the call ends 
 task, nothing is printed, standard error names the line, and the status is 1.
   hugepool format notes.trace | hugepool explain";
 
+/// Of auditing a state.
+pub(crate) const PICTURES: &str = "A state is lines of text. The first has the counts, the last is the word end:
+  picture RESV OWED USED USED_OWED [QUOTA]  the reserve count, what others owe to it, the used count, what others owe to
+                                         that, and the most that may be used
+  free FRAME, retired FRAME, hand FRAME  a frame that is free, taken out of the pool, or in use and in no file
+  file SIZE, file SIZE locked            a file, counted from 0, and whether a call holds its lock
+  region FILE FROM TO                    a reserved range: its first index, and one more than its last
+  page FILE INDEX FRAME                  a page
+  translation TASK FILE INDEX FRAME      a translation of a task to a file's page
+Regions and pages stand in the order of their files and indices. What is wrong is printed line by line, with the places of
+regions, pages and translations counted from 0, and then how many findings there are. The status is 0 where there is none,
+1 where there are some, and 2 where the text couldn't be read.
+  ./kernel audit --core vmcore --vmlinux vmlinux --pictures FOLDER    writes the state of a kernel
+  hugepool audit FOLDER/2048kB.picture
+docs/AUDIT.md describes kernels' states.";
+
 /// Of driving a pool.
 pub(crate) const STEPS: &str =
     "Each line is answered at once, so that a pool can be driven from a terminal:

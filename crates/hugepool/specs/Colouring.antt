@@ -4,7 +4,7 @@ use Rattle.hugepool.specs.declared.colouring.Surroundings.{Surroundings}
 use Rattle.hp_command.specs.declared.request.When.{When}
 use Rattle.hp_command.specs.declared.request.When.TheVariants.{Auto, Always, Never}
 use Rattle.hp_command.specs.declared.request.Request.{Request}
-use Rattle.hp_command.specs.declared.request.Request.TheVariants.{Trace, Script, Pool}
+use Rattle.hp_command.specs.declared.request.Request.TheVariants.{Trace, Script, Pool, Audit}
 use Rattle.hp_command.specs.declared.request.TraceRequest.{TraceRequest}
 use Rattle.hp_command.specs.declared.request.TraceRequest.TheVariants as trace
 use Rattle.hp_command.specs.declared.request.ScriptRequest.{ScriptRequest}
@@ -51,6 +51,7 @@ abbrev pub palette_of : Request → Option Palette
 palette_of (Trace r) = palette_of_trace r
 palette_of (Script r) = palette_of_script r
 palette_of (Pool r) = palette_of_pool r
+palette_of Audit = None
 
 -- by itself at a terminal, unless the environment is against it
 abbrev pub paints : When → Surroundings → Bool

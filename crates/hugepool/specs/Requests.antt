@@ -6,13 +6,14 @@ use Rattle.clap.specs.declared.error.Error.{Error}
 use Rattle.clap.specs.declared.error.kind.ErrorKind.TheVariants.{OutOfMemory, DisplayHelp, DisplayVersion}
 use Rattle.hp_command.specs.declared.request.Asked.{Asked}
 use Rattle.hp_command.specs.declared.request.Request.{Request}
-use Rattle.hp_command.specs.declared.request.Request.TheVariants.{Trace, Script, Pool}
+use Rattle.hp_command.specs.declared.request.Request.TheVariants.{Trace, Script, Pool, Audit}
 use Rattle.hp_command.specs.declared.request.TraceRequest.{TraceRequest}
 use Rattle.hp_command.specs.declared.request.TraceRequest.TheVariants as trace
 use Rattle.hp_command.specs.declared.request.ScriptRequest.{ScriptRequest}
 use Rattle.hp_command.specs.declared.request.ScriptRequest.TheVariants as script
 use Rattle.hp_command.specs.declared.request.PoolRequest.{PoolRequest}
 use Rattle.hp_command.specs.declared.request.PoolRequest.TheVariants as pool
+use Rattle.hp_picture_commands.specs.Auditing.{AnsweredAudit, status_of_audit}
 use Rattle.hp_pool_commands.specs.Stepping.{AnsweredStep}
 use Rattle.hp_pool_commands.specs.Working.{AnsweredTrace, AnsweredWork, status_of_work}
 use Rattle.hp_program.specs.Answers.{IfThere, status_of_runs, status_of_text}
@@ -83,6 +84,8 @@ abbrev pub Ends : Request → (status : ℕ) → (from to : Option (List ℕ)) �
 Ends (Trace r) status from to old new before after = EndsTrace r status from to old new before after
 Ends (Script r) status from to old new before after = EndsScript r status from to old new before after
 Ends (Pool r) status from to old new before after = EndsPool r status from to old new before after
+Ends Audit status from to old new before after =
+    EndsWith status_of_audit status (λ answer. AnsweredAudit answer from to old new before after)
 
 -- the words ask for help
 abbrev pub IsHelp : Error → Type 0

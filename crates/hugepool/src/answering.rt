@@ -5,8 +5,11 @@ ghost use Rattle.hp_program.specs.Answers.{status_of_runs, status_of_text};
 ghost use Rattle.hugepool.specs.Requests.{Ends, EndsPool, EndsScript, EndsTrace};
 ghost use Rattle.hugepool.specs.Status.{status_at};
 
-use crate::stop::{Missed, Stop, stop_of_format, stop_of_runs, stop_of_text, stop_of_work};
+use crate::stop::{
+    Missed, Stop, stop_of_audit, stop_of_format, stop_of_runs, stop_of_text, stop_of_work,
+};
 use hp_command::{PoolRequest, Request, ScriptRequest, TraceRequest};
+use hp_picture_commands::run_audit;
 use hp_pool_commands::{WorkWords, run_step, run_trace_work, run_work};
 use hp_program::run_replay;
 use hp_script_commands::{
@@ -143,5 +146,9 @@ pub(crate) fn answer<H: Clock + Files + Threads + Wait + Sync, R: Source, W: Wri
         Request::Trace(request) => answer_trace(alloc, request, reader, out),
         Request::Script(request) => answer_script(rt, alloc, request, reader, out, faults),
         Request::Pool(request) => answer_pool(rt, alloc, request, reader, out),
+        Request::Audit => {
+            let (audited, out) = run_audit(alloc, reader, out);
+            (stop_of_audit(audited), out)
+        }
     }
 }

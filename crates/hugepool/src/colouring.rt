@@ -66,6 +66,7 @@ fn palette_of(request: &Request) -> Option<Palette>
         Request::Trace(request) => palette_of_trace(request),
         Request::Script(request) => palette_of_script(request),
         Request::Pool(request) => palette_of_pool(request),
+        Request::Audit => None,
     }
 }
 

@@ -114,7 +114,7 @@ fn end<R: Recalls>(answer: &Result<(), Stop>, reader: &R, faults: &mut impl Writ
 // Writes the lines of a fault.
 fn tell<R: Recalls>(stop: &Stop, reader: &R, faults: &mut impl Write) -> io::Result<()> {
     match stop {
-        Stop::Replay(fault) => write_fault(*fault, reader, faults),
+        Stop::Replay(fault) | Stop::Unaudited(fault) => write_fault(*fault, reader, faults),
         _ => write!(faults, "{stop}"),
     }
 }

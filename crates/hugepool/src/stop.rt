@@ -1,11 +1,13 @@
 //! Why the program ends with another status than 0.
 ghost use Rattle.std.specs.Prelude.{◌≡◌};
+ghost use Rattle.hp_picture_commands.specs.Auditing.{status_of_audit};
 ghost use Rattle.hp_pool_commands.specs.Working.{status_of_work};
 ghost use Rattle.hp_program.specs.Answers.{status_of_runs, status_of_text};
 ghost use Rattle.hp_trace_commands.specs.Formatting.{status_of_format};
 ghost use Rattle.hugepool.specs.Status.{status_at, status_of};
 
 use hp_format::LooseFault;
+use hp_picture::PictureFault;
 use hp_pool_commands::WorkFault;
 use hp_text::ReplayFault;
 use thiserror::Error;
@@ -23,6 +25,10 @@ pub(crate) enum Stop {
     Missed(Missed),
     #[error("hugepool: {0}\n")]
     Loose(LooseFault),
+    #[error("{0}")]
+    Unaudited(ReplayFault),
+    #[error("hugepool: {0}\n")]
+    Picture(PictureFault),
 }
 
 /// What was asked for, and isn't so.
@@ -31,6 +37,9 @@ pub(crate) enum Missed {
     /// All runs come to their ends. The lines of the others say so.
     #[error("")]
     Ends,
+    /// Nothing is wrong with the state. The lines of findings say so.
+    #[error("")]
+    Findings,
     /// One of so many runs meets the conditions.
     #[error("hugepool: no run meets all conditions (runs explored: {0})\n")]
     Runs(u32),
@@ -45,7 +54,7 @@ impl Stop {
         ensures { result ≡ status_of self.now }
     {
         match self {
-            Stop::Usage(_) => 2,
+            Stop::Usage(_) | Stop::Unaudited(_) | Stop::Picture(_) => 2,
             Stop::Replay(_) | Stop::Missed(_) | Stop::Loose(_) => 1,
             Stop::Work(fault) => fault.status(),
         }
@@ -81,6 +90,18 @@ pub(crate) fn stop_of_format(answer: Result<(), LooseFault>) -> Result<(), Stop>
         Ok(()) => Ok(()),
         Err(LooseFault::Stream(why)) => Err(Stop::Replay(why)),
         Err(fault) => Err(Stop::Loose(fault)),
+    }
+}
+
+/// Of `audit`.
+pub(crate) fn stop_of_audit(answer: Result<bool, PictureFault>) -> Result<(), Stop>
+    ensures { status_at result ≡ status_of_audit answer }
+{
+    match answer {
+        Ok(true) => Ok(()),
+        Ok(false) => Err(Stop::Missed(Missed::Findings)),
+        Err(PictureFault::Stream(why)) => Err(Stop::Unaudited(why)),
+        Err(fault) => Err(Stop::Picture(fault)),
     }
 }
 
