@@ -26,6 +26,9 @@ pub(crate) struct Part<'a> {
     pub(crate) count: u32,
 }
 
+/// Room for the events of a run of so many turns is taken at once. A longer one takes more as it is made.
+const USUAL_TURNS: usize = 256;
+
 /// The search of a part, and a counter of the turns that are made.
 #[derive(Clone, Copy, Drop)]
 struct Search<'a> {
@@ -43,7 +46,7 @@ impl Work for Search<'_> {
     /// The events of the run at this place, where it meets all conditions.
     fn make(&self, alloc: Global, place: u32) -> Result<Option<Vec<Event>>, AllocError> {
         let part = self.part;
-        let mut events = Vec::new(alloc);
+        let mut events = Vec::with_capacity(alloc, USUAL_TURNS)?;
         let met = explore_run(
             alloc,
             part.script,
