@@ -98,8 +98,7 @@ pub(crate) fn stop_of_audit(answer: Result<bool, PictureFault>) -> Result<(), St
     ensures { status_at result ≡ status_of_audit answer }
 {
     match answer {
-        Ok(true) => Ok(()),
-        Ok(false) => Err(Stop::Missed(Missed::Findings)),
+        Ok(right) => stop_of_runs(Ok(right), Missed::Findings),
         Err(PictureFault::Stream(why)) => Err(Stop::Unaudited(why)),
         Err(fault) => Err(Stop::Picture(fault)),
     }
