@@ -167,11 +167,11 @@ def cases_of_pictures() -> Iterator[tuple[str, bool]]:
     yield "the mount's has its limit", texts["2048kB.mount0"].splitlines()[0] == "picture 5 3 5 1 8"
     yield "its lines", lines[1:10] == [*(f"free {it}" for it in range(20, 28)), "hand 12"] and lines[10:] == [
         "hand 13", "file 4", "region 0 0 4", "page 0 0 10", "page 0 1 11", "file 3", "translation 0 0 0 10", "translation 0 0 1 11", "end"]
-    yield "the auditor of texts finds them right", {pictures.verdict(text.encode()) for text in texts.values()} == {"right"}
+    yield "the auditor of texts finds them right", {pictures.verdict(text.encode()) for text in texts.values()} == {"findings 0"}
     for number, (clause, plant) in enumerate(ERRORS):
         if clause in SEEN_IN_TEXT and number not in UNSEEN_IN_TEXT:
             found = {pictures.verdict(text.encode()) for text in dict(picture.pictures(with_error(plant))).values()}
-            yield f"error {number}, {clause}, shows in a text: {found}", found != {"right"}
+            yield f"error {number}, {clause}, shows in a text: {found}", found != {"findings 0"}
     locked = healthy()
     file_of(locked).locked = True
     yield "a locked file", "file 4 locked" in dict(picture.pictures(locked))["2048kB"].splitlines()

@@ -1,11 +1,11 @@
 #!/usr/bin/env python3
 """Judges pictures (docs/AUDIT.md, "The state as text") by an auditor of its own, and compares a program's audit with it.
 
-usage: pictures.py --program P [--count N] [--seed N]      N random pictures, right and damaged (10000)
+usage: pictures.py [--program P] [--count N] [--seed N]    N random pictures, right and damaged (10000); ./hugepool by default
        pictures.py --program P FILE ..                     these pictures
        pictures.py FILE ..                                 prints what this auditor says of them
 
-A program is run with the word `audit` for each picture, on its standard input, and has to print `right`, a finding's line, or name the bad line.
+A program is run with the word `audit` for each picture, on its standard input, and has to print the same findings, or name the bad line.
 The last line is 'N passed, M failed'. Status: 0 all equal; 1 some differ.
 """
 from __future__ import annotations
@@ -19,8 +19,8 @@ from collections import Counter
 from dataclasses import dataclass, field
 from pathlib import Path
 
-MOST = 2**32 - 1
-RIGHT, SHAPE, AGREE, PLACE, SIZE, COUNT, USED = "right", "shape", "agree", "place", "size", "count", "used"
+HUGEPOOL = Path(__file__).resolve().parents[2] / "hugepool"
+MOST, INDICES = 2**32 - 1, 2**31
 NUMBER = re.compile(r"0|[1-9][0-9]*")
 SIGNED = re.compile(r"-?(?:0|[1-9][0-9]*)")
 # of each line but the first how many numbers stand behind its word
@@ -99,45 +99,63 @@ def add_numbers(to: Picture, word: str, numbers: tuple[int, ...]) -> None:
         {"region": to.regions, "page": to.pages, "translation": to.translations}[word].append(numbers)
 
 
-def is_shaped(it: Picture) -> bool:
-    files = len(it.files)
-    if any(file >= files for file, *_ in it.regions + it.pages) or any(file >= files for _, file, *_ in it.translations):
-        return False
-    ends: dict[int, int] = {}
-    # (an empty range may stand at any place between the others)
-    for file, begin, end in it.regions:
-        if begin > end or begin < ends.get(file, 0):
-            return False
-        ends[file] = max(end, ends.get(file, 0))
-    return len({page[:2] for page in it.pages}) == len(it.pages)
+def out_of_order(it: Picture) -> list[str]:
+    """The regions and pages that aren't right, or don't stand behind the one before them."""
+    lines, before = [], None
+    for number, (file, begin, end) in enumerate(it.regions):
+        if file >= len(it.files) or not begin < end <= INDICES or before and not (file > before[0] or file == before[0] and begin > before[2]):
+            lines.append(f"region {number}: of no file, empty, too long, or not behind the region before it")
+        before = file, begin, end
+    for number, (file, index, _) in enumerate(it.pages):
+        if file >= len(it.files) or index >= INDICES or number and (file, index) <= it.pages[number - 1][:2]:
+            lines.append(f"page {number}: of no file, or not behind the page before it")
+    return lines
 
 
-def judge(it: Picture) -> str:
-    """The first finding."""
-    if not is_shaped(it):
-        return SHAPE
-    pages = {(file, index): frame for file, index, frame in it.pages}
-    if any(pages.get((file, index)) != frame for _, file, index, frame in it.translations):
-        return AGREE
-    if any(count > 1 for count in Counter(it.frames + list(pages.values())).values()):
-        return PLACE
-    if any(index >= it.files[file][0] and not it.files[file][1] for _, file, index, _ in it.translations):
-        return SIZE
+def astray(it: Picture) -> list[str]:
+    """The translations that aren't right."""
+    lines, pages = [], set(it.pages)
+    for number, (_, file, index, frame) in enumerate(it.translations):
+        size, is_locked = it.files[file] if file < len(it.files) else (0, True)
+        if file >= len(it.files):
+            lines.append(f"translation {number}: of no file")
+        if (file, index, frame) not in pages:
+            lines.append(f"translation {number}: not to its file's page at that index")
+        if not is_locked and index >= size:
+            lines.append(f"translation {number}: at or above the size of an unlocked file")
+    return lines
+
+
+def judge(it: Picture) -> list[str]:
+    """All findings, as lines; a frame has one for each place but one."""
+    wrong = out_of_order(it)
+    lines = wrong + astray(it)
+    for frame, times in Counter(it.frames + [frame for _, _, frame in it.pages]).items():
+        lines += [f"frame {frame}: at two places"] * (times - 1)
     resv, owed, used, used_owed = it.counts
     reserved = sum(end - begin for _, begin, end in it.regions)
-    marked = sum(any(file == its and begin <= index < end for its, begin, end in it.regions) for file, index in pages)
-    if resv != reserved - marked + owed or not 0 <= resv <= it.free:
-        return COUNT
-    if used != reserved + used_owed or it.quota is not None and used > it.quota:
-        return USED
-    return RIGHT
+    marked = sum(any(file == its and begin <= index < end for its, begin, end in it.regions) for file, index, _ in it.pages)
+    if not wrong and resv != reserved - marked + owed:
+        lines.append(f"resv: should be {reserved - marked + owed}")
+    if not wrong and used != reserved + used_owed:
+        lines.append(f"used: should be {reserved + used_owed}")
+    if not 0 <= resv <= it.free:
+        lines.append("resv: below zero, or above the free frames")
+    if used < 0 or it.quota is not None and used > it.quota:
+        lines.append("used: below zero, or above the quota")
+    return lines
 
 
 def verdict(text: bytes) -> str:
+    """What is told of a picture: its findings, sorted, and how many there are; or the bad line."""
     try:
-        return judge(read(text))
+        return told_of(judge(read(text)))
     except BadLine as why:
         return f"line {why}"
+
+
+def told_of(lines: list[str]) -> str:
+    return "\n".join([*sorted(lines), f"findings {len(lines)}"])
 
 
 def drawn(chance: random.Random) -> list[str]:
@@ -202,28 +220,15 @@ def random_picture(chance: random.Random) -> bytes:
     return text[: chance.randrange(len(text) + 1)] if chance.random() < 0.05 else text
 
 
-# what the program prints for each finding
-LINES = {
-    "a range, an index or a file's number is out of bounds, or an index has two pages": SHAPE,
-    "a translation names a frame that isn't the page of its file at that index": AGREE,
-    "a frame is at two places": PLACE,
-    "a translation lies at or above the size of a file that isn't locked": SIZE,
-    "the reserve count isn't that of the reserved indices, or is above the free frames": COUNT,
-    "the used count isn't that of the reserved indices, or is above the quota": USED,
-    "right": RIGHT,
-}
-
-
 def asked(program: str, text: bytes) -> str:
     """What the program says of a picture, in this auditor's words."""
     ran = subprocess.run([program, "audit"], input=text, capture_output=True, check=False)
-    told, why = ran.stdout.decode().strip(), ran.stderr.decode()
-    bad = re.search(r"line (\d+)", why)
-    if ran.returncode == 0 and told == "right":
-        return RIGHT
-    if ran.returncode == 1 and told in LINES and told != "right":
-        return LINES[told]
-    return f"line {bad[1]}" if ran.returncode == 1 and bad and not told else f"status {ran.returncode}: {told!r} {why!r}"
+    *lines, last = ran.stdout.decode().splitlines() or [""]
+    bad = re.fullmatch(r"hugepool: line (\d+) is not one of a picture\n", ran.stderr.decode())
+    if ran.returncode == 2 and bad and not last:
+        return f"line {bad[1]}"
+    is_said = last == f"findings {len(lines)}" and ran.returncode == (1 if lines else 0) and not ran.stderr
+    return told_of(lines) if is_said else f"status {ran.returncode}: {ran.stdout!r} {ran.stderr!r}"
 
 
 def main() -> int:
@@ -233,7 +238,7 @@ def main() -> int:
     words.add_argument("--count", type=int, default=10000)
     words.add_argument("--seed", type=int, default=1)
     options = words.parse_args()
-    if options.program is None:
+    if options.program is None and options.files:
         print("\n".join(f"{path}: {verdict(path.read_bytes())}" for path in options.files))
         return 0
     chance = random.Random(options.seed)
@@ -241,8 +246,8 @@ def main() -> int:
     found: Counter[str] = Counter()
     failed = 0
     for number, text in enumerate(texts):
-        own, its = verdict(text), asked(options.program, text)
-        found[own if not own.startswith("line") else "a bad line"] += 1
+        own, its = verdict(text), asked(options.program or str(HUGEPOOL), text)
+        found["with a bad line" if own.startswith("line") else "right" if own == told_of([]) else "wrong"] += 1
         if own != its:
             failed += 1
             print(f"picture {number}: this auditor says {own}, and the program {its}:\n{text.decode(errors='replace')}")
