@@ -5,7 +5,8 @@ usage: ./check mutants [CRATE ..] [--all] [--each]
 
 Of crates that are named it tries all mutants. Without a name it tries those of each crate of which a commit since the time in
 gate/tried.txt changed a file in src/, specs/, edits/, must-fail/ or must-not-compile/, or that has such a change uncommitted. With --all it
-tries all, with the right body of each function as a control; where all are refused it writes the time at which it began to that file.
+tries all, with the right body of each function as a control. Where all of a crate are refused, and none of its files is changed, the time
+at which the trial began stands in that file then: first that of all, and behind it those of crates that were tried later.
 
 The mutants of a crate stand in its folders must-fail/ (those that the toolchain's gate tries too), edits/ and must-not-compile/
 (those that the compiler refuses, with the error that they name). One check tries all wrong bodies of plain functions, as siblings of
@@ -153,18 +154,37 @@ def git(top: Path, *words: str) -> str:
     return subprocess.run([*own, *words], stdin=subprocess.DEVNULL, capture_output=True, text=True, check=True).stdout
 
 
+def times_of(tried: str) -> tuple[datetime, dict[str, datetime]]:
+    """The time at which all were refused, and those of crates that were tried later."""
+    first, *others = tried.splitlines()
+    named = (line.split() for line in others)
+    return datetime.fromisoformat(first.strip()), {name: datetime.fromisoformat(time) for name, time in named}
+
+
 def due(top: Path, tried: str, every: set[str]) -> set[str]:
-    """The crates with own changes since that time. Where that can't be said (no repository, a part of its history, no time), all."""
+    """The crates with own changes since their time. Where that can't be said (no repository, a part of its history, no time), all."""
     try:
-        since = datetime.fromisoformat(tried.strip()).isoformat()
+        since, own = times_of(tried)
         if git(top, "rev-parse", "--is-shallow-repository").strip() == "true":
             return every
         # (a merge is shown as what it brought to the branch, at its own time)
-        changed = git(top, "log", "--first-parent", "-m", "--name-only", "--format=", f"--since-as-filter={since}", "--", "crates")
-        changed += git(top, "status", "--porcelain", "--untracked-files=all", "--", "crates")
+        shown = ("log", "--first-parent", "-m", "--name-only", "--format=@%cI", f"--since-as-filter={since.isoformat()}", "--", "crates")
+        changed = {made[1] for made in OWN.finditer(git(top, "status", "--porcelain", "--untracked-files=all", "--", "crates"))}
+        for commit in git(top, *shown).split("@")[1:]:
+            time, _, files = commit.partition("\n")
+            changed |= {made[1] for made in OWN.finditer(files) if datetime.fromisoformat(time) > own.get(made[1], since)}
     except (OSError, ValueError, subprocess.CalledProcessError):
         return every
-    return {made[1] for made in OWN.finditer(changed)} & every
+    return changed & every
+
+
+def note_tried(names: Iterable[str], began: datetime, is_all: bool) -> None:
+    """Notes that the mutants of these crates were refused by what is committed."""
+    since, own = times_of(TRIED.read_text(encoding="utf-8"))
+    dirty = {made[1] for made in OWN.finditer(git(TOP, "status", "--porcelain", "--untracked-files=all", "--", "crates"))}
+    since, own = (began, {}) if is_all and not dirty else (since, own | {it: began for it in names if it not in dirty})
+    lines = [since.isoformat(timespec="seconds"), *(f"{name} {time.isoformat(timespec='seconds')}" for name, time in sorted(own.items()))]
+    TRIED.write_text("".join(f"{line}\n" for line in lines), encoding="utf-8")
 
 
 def lines_of(tried: Tried, is_each_told: bool) -> list[str]:
@@ -173,7 +193,7 @@ def lines_of(tried: Tried, is_each_told: bool) -> list[str]:
 
 def try_all(picked: set[str], is_all: bool, is_each_told: bool) -> int:
     """Tries the mutants of these crates, and returns the status."""
-    refused, faults = 0, []
+    refused, faults, began = 0, [], datetime.now(timezone.utc)
     if not build_libraries(sorted(picked)):
         print("check: the libraries below these crates aren't proved, so no mutant was tried")
         return 1
@@ -181,8 +201,10 @@ def try_all(picked: set[str], is_all: bool, is_each_told: bool) -> int:
         print("\n".join([tried.line(), *lines_of(tried, is_each_told)]), flush=True)
         wrong = lines_of(tried, False)
         refused, faults = refused + len(tried.results) - len(wrong), faults + wrong
+        note_tried([] if wrong or is_all else [tried.name], began, False)
     # (once more, since the lines of other crates may stand behind them)
     print("\n".join([*faults, f"mutants: {refused} passed, {len(faults)} failed"]))
+    note_tried([], began, is_all and not faults)
     return 1 if faults else 0
 
 
@@ -206,14 +228,11 @@ def main() -> int:
         words.error(f"crates.txt has no crate {unknown[0]}")
     if given.apply:
         return apply(numbers)
-    every, began = {it for it, number in numbers.items() if number}, datetime.now(timezone.utc)
+    every = {it for it, number in numbers.items() if number}
     picked = every if given.all else set(given.crates) & every if given.crates else due(TOP, TRIED.read_text(encoding="utf-8"), every)
     few = sum(numbers[it] for it in picked)
     print(f"mutants: {few} of {sum(numbers.values())} are due, in {len(picked)} crates: {' '.join(sorted(picked))}", flush=True)
-    status = try_all(picked, given.all, given.each) if picked else 0
-    if given.all and status == 0:
-        TRIED.write_text(f"{began.isoformat(timespec='seconds')}\n", encoding="utf-8")
-    return status
+    return try_all(picked, given.all, given.each) if picked else 0
 
 
 if __name__ == "__main__":

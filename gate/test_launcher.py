@@ -398,6 +398,8 @@ def dues(top: Path) -> Iterator[tuple[str, bool]]:
         git("checkout", "-q", "-B", path, "HEAD~0" if path == "src/lib.rt" else "HEAD~1")
         commit(f"crates/low/{path}", later)
         yield f"{path} makes those of its own crate due", due(top, tried, every) == {"low"}
+        yield ".. unless they were tried later", due(top, f"{tried}\nlow 2026-01-01T14:00:00+00:00", every) == set()
+        yield ".. or another crate's were", due(top, f"{tried}\nhigh 2026-01-01T14:00:00+00:00", every) == {"low"}
     (top / "crates/high/src").mkdir(parents=True)
     (top / "crates/high/src/lib.rt").write_text("new", encoding="utf-8")
     yield "a change that isn't committed does, too", due(top, tried, every) == every
