@@ -1,5 +1,5 @@
 -- The endings of runs.
-use Rattle.std.specs.Prelude.{◌≡◌, ◌<◌, ◌⊎◌, ℕ, Bool, true, false, List, Contains, Option, Some}
+use Rattle.std.specs.Prelude.{◌≡◌, ◌<◌, ◌⊎◌, ℕ, Bool, true, false, List, Contains, Option, None, Some, if◌then◌else◌}
 use Rattle.hp_layers.specs.declared.ending.EndingTable.{EndingTable}
 use Rattle.hp_layers.specs.declared.ending.EndingTable.TheVariants.{Whole, Cut}
 use Rattle.hp_layers.specs.declared.limits.Limits.{Limits}
@@ -57,3 +57,13 @@ unfoldable pub AreCutAtLimits : {S K : Type 0} → (eq : K → K → Bool) → (
 AreCutAtLimits eq key_of turn first limits (Whole states) = Unit {0}
 AreCutAtLimits eq key_of turn first limits (Cut states turns) =
     (turns ≡ limits.turns) ⊎ IsCrowded eq key_of turn first limits.states turns
+
+-- 1 where the ending is that one, or else 0
+abbrev pub ends_so : {E : Type 0} → (eq : E → E → Bool) → Option E → E → ℕ
+ends_so eq None e = 0
+ends_so eq (Some d) e = if eq d e then 1 else 0
+
+-- whether it is equal to that one
+abbrev pub ends_in : {E : Type 0} → (eq : E → E → Bool) → Option E → E → Bool
+ends_in eq None e = false
+ends_in eq (Some d) e = eq d e

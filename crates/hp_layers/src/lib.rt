@@ -6,6 +6,7 @@
 //! layers at a time, and ends where one is empty, or where its limits run out.
 #![tactic(auto)]
 
+mod counting;
 mod ending;
 mod layer;
 mod limits;
@@ -14,6 +15,7 @@ mod searching;
 mod turns;
 mod verdict;
 
+pub use counting::{Counts, RunCounts};
 pub use ending::{EndingTable, Ends, endings};
 pub use limits::Limits;
 pub use progress::Progress;
