@@ -1,5 +1,6 @@
 -- Sums over states, each as often as a number says, up to a number that counts as that many or more.
-use Rattle.std.proofs.Common.{◌≡◌, ◌∙◌, ℕ, zero, suc, ◌+◌, ◌-◌, ◌*◌, ◌<◌, ◌≤◌, ◌++◌, ◌∷◌, [], List, length, get_or, set, take, refl, sym, ap, subst}
+use Rattle.std.proofs.Common.{◌≡◌, ◌∙◌, ℕ, zero, suc, ◌+◌, ◌-◌, ◌*◌, ◌<◌, ◌≤◌, ◌++◌, ◌∷◌, [], List, length, get_or, set, take, refl, sym}
+use Rattle.std.proofs.Common.{ap, subst}
 use Rattle.std.proofs.Common.{arith, inl, inr}
 use Rattle.std.specs.Prelude.{Bool, true, false, cond, Option, Some, None, min}
 use Rattle.std.proofs.Math.Nat.{add-mul, mul-add}
@@ -149,7 +150,8 @@ weigh_more {S} ns states f k d long within =
     ∙ weigh_push (take k ns) (take k states) f (get_or ns k 0) (get_or states k d) (one ∙ sym two)
 
 -- its states behind it are added
-pub layer_more : (new old before more x y : ℕ) → IsAsMany new (old + more * x) → IsAsMany old before → x ≡ y → IsAsMany new (before + more * y)
+pub layer_more : (new old before more x y : ℕ) → IsAsMany new (old + more * x) → IsAsMany old before → x ≡ y
+    → IsAsMany new (before + more * y)
 layer_more new old before more x y e f is =
     e ∙ (more_of_both old before (more * x) f ∙ ap (λ (k : ℕ). min (before + more * k) most) is)
 
@@ -162,8 +164,8 @@ not_ended a more x none =
     ap (λ (k : ℕ). min k most) (omega (arith, zero))
 
 -- two states that end in one ending
-pub ends_alike : {S E : Type 0} (eq : E → E → Bool) (ending : S → Option E) (ways : S → E → ℕ) (place : E → Option ℕ) (states : List S) (s : S)
-    (how : E) (e : E) → ((d e : E) → eq d e ≡ true → d ≡ e) → ((t : S) (e : E) → ways t e ≡ ends_so eq (ending t) e)
+pub ends_alike : {S E : Type 0} (eq : E → E → Bool) (ending : S → Option E) (ways : S → E → ℕ) (place : E → Option ℕ) (states : List S)
+    (s : S) (how : E) (e : E) → ((d e : E) → eq d e ≡ true → d ≡ e) → ((t : S) (e : E) → ways t e ≡ ends_so eq (ending t) e)
     → ending s ≡ Some how → PlacesStand (λ t e. ends_in eq (ending t) e) place states → (j : ℕ) (d : S) → place how ≡ Some j
     → ways (get_or states j d) e ≡ ways s e
 unfolding PlacesStand

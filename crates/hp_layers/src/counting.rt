@@ -52,10 +52,12 @@ fn add_ways<K: Eq + Hash + Drop, S: Drop>(
     ensures within { OnOk result (AreWithin (get K.eq places.new) (length counts.new.states.items)) }
     ensures added { OnOk result (AddsSome counts.old.states.items state counts.new.states.items) }
     ensures stand { OnOk result ((holds : S → K → Bool) → ((q : K) → K.eq key q ≡ true → holds state q ≡ true)
-        → PlacesStand holds (get K.eq places.old) counts.old.states.items → PlacesStand holds (get K.eq places.new) counts.new.states.items) }
+        → PlacesStand holds (get K.eq places.old) counts.old.states.items
+        → PlacesStand holds (get K.eq places.new) counts.new.states.items) }
     ensures sum { OnOk result ((f : S → ℕ)
         → ((j : ℕ) (d : S) → get K.eq places.old key ≡ Some j → f (slice_index_or counts.old.states.items j d) ≡ f state)
-        → IsAsMany (weigh counts.new.ways.items counts.new.states.items f) (weigh counts.old.ways.items counts.old.states.items f + more * f state)) }
+        → IsAsMany (weigh counts.new.ways.items counts.new.states.items f)
+        (weigh counts.old.ways.items counts.old.states.items f + more * f state)) }
 {
     let place = places.get(&key).copied();
     match place {
@@ -88,7 +90,8 @@ fn add_each<M: Counts>(
     ensures valid { OnOk result (AreValid (M.valid system.now) counts.new.states.items) }
     ensures long { OnOk result (length counts.new.ways.items ≡ length counts.new.states.items) }
     ensures within { OnOk result (AreWithin (get M.Key.eq places.new) (length counts.new.states.items)) }
-    ensures stand { OnOk result (PlacesStand (λ s k. M.Key.eq (M.key_of system.now s) k) (get M.Key.eq places.new) counts.new.states.items) }
+    ensures stand { OnOk result (PlacesStand (λ s k. M.Key.eq (M.key_of system.now s) k) (get M.Key.eq places.new)
+        counts.new.states.items) }
     ensures sum { OnOk result ((n : ℕ) (e : M.Ending)
         → IsAsMany (weigh counts.new.ways.items counts.new.states.items (λ t. M.ways system.now t n e))
         (weigh counts.old.ways.items counts.old.states.items (λ t. M.ways system.now t n e)
@@ -144,7 +147,8 @@ fn take_way<M: Counts>(
 ) -> Result<(), AllocError>
     requires long { length table.old.ways.items ≡ length table.old.states.items }
     requires within { AreWithin (get M.Ending.eq places.old) (length table.old.states.items) }
-    requires stand { PlacesStand (λ s e. ends_in M.Ending.eq (M.ending_of system.now s) e) (get M.Ending.eq places.old) table.old.states.items }
+    requires stand { PlacesStand (λ s e. ends_in M.Ending.eq (M.ending_of system.now s) e) (get M.Ending.eq places.old)
+        table.old.states.items }
     ensures long { OnOk result (length table.new.ways.items ≡ length table.new.states.items) }
     ensures within { OnOk result (AreWithin (get M.Ending.eq places.new) (length table.new.states.items)) }
     ensures stand { OnOk result (PlacesStand (λ s e. ends_in M.Ending.eq (M.ending_of system.now s) e) (get M.Ending.eq places.new)
@@ -171,7 +175,8 @@ fn take_counts<M: Counts>(
     requires layer { length layer.ways.items ≡ length layer.states.items }
     requires long { length table.old.ways.items ≡ length table.old.states.items }
     requires within { AreWithin (get M.Ending.eq places.old) (length table.old.states.items) }
-    requires stand { PlacesStand (λ s e. ends_in M.Ending.eq (M.ending_of system.now s) e) (get M.Ending.eq places.old) table.old.states.items }
+    requires stand { PlacesStand (λ s e. ends_in M.Ending.eq (M.ending_of system.now s) e) (get M.Ending.eq places.old)
+        table.old.states.items }
     ensures long { OnOk result (length table.new.ways.items ≡ length table.new.states.items) }
     ensures within { OnOk result (AreWithin (get M.Ending.eq places.new) (length table.new.states.items)) }
     ensures stand { OnOk result (PlacesStand (λ s e. ends_in M.Ending.eq (M.ending_of system.now s) e) (get M.Ending.eq places.new)

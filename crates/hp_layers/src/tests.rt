@@ -1,8 +1,9 @@
 //! A counter that goes up to three.
-ghost use Rattle.std.specs.Prelude.{◌≡◌, ◌≤◌};
+ghost use Rattle.std.specs.Prelude.{◌≡◌, ◌≤◌, refl};
 ghost use Rattle.hp_layers.specs.Counted.{end_of, ends_alike_counts};
-ghost use Rattle.hp_layers.specs.Counted.{Goes, as_good_counts, same_count};
+ghost use Rattle.hp_layers.specs.Counted.{Goes, as_good_counts, same_count, same_ways_on, ways_on};
 
+use crate::counting::{Counts, RunCounts, count_runs};
 use crate::ending::{EndingTable, Ends, endings};
 use crate::limits::Limits;
 use crate::progress::Progress;
@@ -69,6 +70,25 @@ impl Ends for Wanted {
     }
 
     ghost ends_alike = { λ m. ends_alike_counts };
+}
+
+impl Counts for Wanted {
+    ghost ways = { λ m s n e. ways_on s n e };
+
+    // It goes up in two ways, which lead to one state.
+    fn each_after(&self, alloc: Global, state: &u32) -> Result<Vec<u32>, AllocError> {
+        let mut next = Vec::new(alloc);
+        if *state >= 3 {
+            return Ok(next);
+        }
+        next.push(*state + 1)?;
+        next.push(*state + 1)?;
+        Ok(next)
+    }
+
+    ghost ends_now = { λ m s e. refl };
+
+    ghost same_ways = { λ m. same_ways_on };
 }
 
 /// How many layers were told, and the last of them.
@@ -151,4 +171,34 @@ fn ends(rt: HostRuntime) {
     };
     let cut = only_ending(rt.alloc(), few_turns);
     assert!(rt; matches!(cut, Ok(None)));
+}
+
+/// In how many ways the counter comes to its end, if it has one end alone.
+fn only_count(alloc: Global, limits: Limits) -> Result<Option<u128>, AllocError> {
+    let mut told = Told { layers: 0, last: 0 };
+    let counted: Option<RunCounts<u32>> = count_runs(
+        alloc,
+        &Wanted { count: 2 },
+        0,
+        limits,
+        &mut told,
+    )?;
+    match counted {
+        Some(counts) => Ok(if counts.ways.len() == 1 {
+            Some(counts.ways[0])
+        } else {
+            None
+        }),
+        None => Ok(None),
+    }
+}
+
+#[test]
+fn counts_runs(rt: HostRuntime) {
+    let wide = Limits {
+        turns: 9,
+        states: 9,
+    };
+    let counted = only_count(rt.alloc(), wide);
+    assert!(rt; matches!(counted, Ok(Some(8))));
 }

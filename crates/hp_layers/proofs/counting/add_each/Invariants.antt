@@ -11,7 +11,8 @@ invariant-loop-state g l = record {
   valid : AreValid (g.M.Turns.valid l.system) l.counts.states.items;
   long : length l.counts.ways.items ≡ length l.counts.states.items;
   within : AreWithin (get g.M.Key.PartialEq.eq l.places) (length l.counts.states.items);
-  stand : PlacesStand (λ s k. g.M.Key.PartialEq.eq (g.M.Turns.key_of l.system s) k) (get g.M.Key.PartialEq.eq l.places) l.counts.states.items;
+  stand : PlacesStand (λ s k. g.M.Key.PartialEq.eq (g.M.Turns.key_of l.system s) k) (get g.M.Key.PartialEq.eq l.places)
+      l.counts.states.items;
   sum : (n : ℕ) (e : _) → IsAsMany
       (weigh l.counts.ways.items l.counts.states.items (λ t. g.M.Counts.ways l.system t n e)
       + l.more * sum_by (λ t. g.M.Counts.ways l.system t n e) l.left.items)
