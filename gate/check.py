@@ -61,7 +61,7 @@ GROUPS = {
     ],
     "linux": [
         Script("conformance/compare.py", proved=True),
-        *(Script(f"conformance/{it}.py") for it in ("races", "live/lines", "live/lost", "live/repairs")),
+        *(Script(f"conformance/{it}.py") for it in ("races", "live/lines", "live/lost", "live/repairs", "audit/pictures")),
         # (each test that there is)
         *(Script(str(it.relative_to(TOP)), ("cc", "cargo"), it.stem == "test_compare") for it in sorted(CONFORMANCE.glob("**/test_*.py"))),
     ],

@@ -1,7 +1,7 @@
 #!/usr/bin/env python3
 """Judges pictures (docs/AUDIT.md, "The state as text") by an auditor of its own, and compares a program's audit with it.
 
-usage: pictures.py [--program P] [--count N] [--seed N]    N random pictures, right and damaged (10000); ./hugepool by default
+usage: pictures.py [--program P] [--count N] [--seed N]    N random pictures, right and damaged (1000); ./hugepool by default
        pictures.py --program P FILE ..                     these pictures
        pictures.py FILE ..                                 prints what this auditor says of them
 
@@ -235,7 +235,7 @@ def main() -> int:
     words = argparse.ArgumentParser(description=__doc__, formatter_class=argparse.RawDescriptionHelpFormatter)
     words.add_argument("files", nargs="*", type=Path, metavar="FILE")
     words.add_argument("--program")
-    words.add_argument("--count", type=int, default=10000)
+    words.add_argument("--count", type=int, default=1000)
     words.add_argument("--seed", type=int, default=1)
     options = words.parse_args()
     if options.program is None and options.files:
