@@ -33,11 +33,11 @@ PATIENCE = 120
 MOST = 20_000
 # the number by which the library tells of each thread, and refuses nothing
 TELL_THREADS = -1
-# what hugepool ends with and says, by the letter of the fault
+# what hugepool says, by the letter of the fault
 FAILED = {
-    "m": (1, "hugepool: out of memory\n"),
-    "r": (1, "hugepool: reading failed\nhugepool: Input/output error (os error 5)\n"),
-    "w": (1, "hugepool: writing failed\nhugepool: No space left on device (os error 28)\n"),
+    "m": "hugepool: out of memory\n",
+    "r": "hugepool: reading failed\nhugepool: Input/output error (os error 5)\n",
+    "w": "hugepool: writing failed\nhugepool: No space left on device (os error 28)\n",
 }
 
 
@@ -154,6 +154,8 @@ class Case(NamedTuple):
     lines: int = 0
     # whether its calls wait for those of other threads: where one can't be made it ends as if memory were wanted
     waits: bool = False
+    # the status behind a fault
+    status: int = 1
 
 
 def is_same(out: str, right: str) -> bool:
@@ -206,6 +208,10 @@ def workloads() -> list[str]:
 LOOSE = "# by hand\n\npool 4 1 4 1\n begin 1 map 0 0 1\nstep 1 *3\nstep 1 until ended\nbegin 1 store 0 7\nstep 1 until taken\n"
 
 
+# a state with which much is wrong
+PICTURE = "picture 1 0 0 0\n" + "".join(f"hand {it // 2}\n" for it in range(600)) + "end\n"
+
+
 def cases() -> list[Case]:
     """What is run."""
     plain = plain_words
@@ -238,6 +244,7 @@ def cases() -> list[Case]:
         raced("race --times 1", example("truncate-after-store.script"))._replace(waits=True),
         explored("explore --summary --runs 3 --deny 100 --kill 10", script),
         *(plain(words, LOOSE) for words in ("format", "step")),
+        plain("audit", PICTURE)._replace(status=2),
         raced("race --times 1", crowd(12)),
         *stream_cases(),
     ]
@@ -251,7 +258,7 @@ def stream_cases() -> list[Case]:
     more = "explain --compact --linux --tasks 1 --lines 2..1500", "explain --json", "replay --json", "draw --html"
     found += [plain_words(words, trace) for words in more]
     found += [plain_words(words, script) for words in ("schedule", "explore --runs 600", "explore --summary --runs 60")]
-    found += [plain_words("format", trace)]
+    found += [plain_words("format", trace), plain_words("audit", PICTURE)._replace(status=2)]
     found += [plain_words("minimize --final resv=0", trace)]
     # (a race writes each line by itself)
     found += [Case("race --times 3", short, is_race, is_race_front), Case("race --trace", short, begins_alike, begins_alike)]
@@ -298,12 +305,13 @@ def fault(case: Case, right: Told, told: Told) -> str | None:
     if len(told.faults) > 1:
         return f"more than one call failed: {told.faults}"
     if told.faults in FAILED and not (told.faults == "m" and is_whole(case, right, told)):
-        if (told.status, told.err) != FAILED[told.faults]:
+        # (without memory for the words no command is known)
+        if told.status not in ({1, case.status} if told.faults == "m" else {case.status}) or told.err != FAILED[told.faults]:
             return f"status {told.status}, and on standard error {told.err!r}"
         is_short = case.is_front(told.out, right.out) and (told.faults == "m" or told.out != right.out)
         return None if is_short else f"its output is no front of the right one: {told.out[-100:]!r}"
     if told.faults == "t" and case.waits:
-        is_so = (told.status, told.out, told.err) == (1, "", FAILED["m"][1])
+        is_so = (told.status, told.out, told.err) == (1, "", FAILED["m"])
         return None if is_so else f"it ended with {told.status} and {told.err!r} without a thread"
     if (told.status, told.err) != (right.status, right.err):
         return f"status {told.status}, and on standard error {told.err!r}, though nothing failed"
@@ -368,7 +376,7 @@ def faults(program: Program, case: Case, pool: ThreadPoolExecutor, judge: Judge 
                 found.append(f"{name}: {kind} {number}: {wrong}")
             missing = {it for it in missing if it not in told.out}
             failed, threads = failed + bool(told.faults), threads + (told.faults == "t")
-            shown += (told.status, told.err) == FAILED["m"] and 0 < told.out.count("\n") < case.lines
+            shown += (told.status, told.err) == (case.status, FAILED["m"]) and 0 < told.out.count("\n") < case.lines
             whole += told.faults == "m" and is_whole(case, right, told)
         if number == 1 or told.faults:
             found.append(f"{name}: of its calls {kind} {number - 1} failed")

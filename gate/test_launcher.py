@@ -82,7 +82,7 @@ class Crate:
             print(what, self.name, os.getpid(), file=notes)
     def build_rlib(self, words, anew):
         self.note("begin")
-        print("so far: 1 of 1 functions checked", flush=True)
+        print("so far: 1 of 1 functions checked\\nfn f: proved", flush=True)
         time.sleep(60 if (self.top / "stuck").exists() else 0.5)
         if (self.top / "broken").read_text() == self.name or not all(low.is_built() for low in self.below()):
             print("this is why")

@@ -80,6 +80,8 @@ WITH = {
     "find": ("find --final resv=1",),
     "help": ("--help",),
 }
+# what a command reads that reads no script, and its status where writing fails, if it isn't 1
+READS, STATUS = {"audit": b"picture 0 0 0 0\nend\n"}, {"audit": 2}
 
 
 def told_of(launcher: Path, words: str, read: bytes, **more: str) -> Ran:
@@ -118,9 +120,10 @@ def flushes(copy: Path) -> Iterator[tuple[str, bool]]:
     script, helped = b"pool 4 1 4 1\nbegin 1 map 0 0 1\n", told_of(copy / "hugepool", "--help", b"").out
     commands = [line.split()[0] for line in helped.partition("Commands:\n")[2].partition("\n\n")[0].splitlines()]
     for words in (it for command in commands for it in WITH.get(command, (command,))):
-        good = told_of(copy / "hugepool", words, script)
-        failed = told_of(copy / "hugepool", words, script, FLUSH_FAILS="1")
-        wanted = (1, len(good.out), f"{NOTICE}hugepool: writing failed\n")
+        name = words.split()[0]
+        good = told_of(copy / "hugepool", words, READS.get(name, script))
+        failed = told_of(copy / "hugepool", words, READS.get(name, script), FLUSH_FAILS="1")
+        wanted = (STATUS.get(name, 1), len(good.out), f"{NOTICE}hugepool: writing failed\n")
         yield f"{words} flushes its output", good.status == 0 and (failed.status, len(failed.out), failed.err) == wanted
 
 
