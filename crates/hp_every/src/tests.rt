@@ -1,0 +1,9 @@
+//! The laws are there to be cited.
+use crate::a_schedule_is_a_run;
+use std::test::Fail;
+
+#[test]
+fn laws_are_cited() -> Result<(), Fail> {
+    a_schedule_is_a_run();
+    Ok(())
+}
