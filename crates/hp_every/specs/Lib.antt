@@ -1,1 +1,2 @@
+pub mod Scheduled
 pub mod Schedules

@@ -1,8 +1,12 @@
 //! Laws of all schedules, each said by the contract of a function that does nothing.
-ghost use Rattle.std.specs.Prelude.{ℕ, List};
+ghost use Rattle.std.specs.Prelude.{◌≤◌, ℕ, List};
+ghost use Rattle.hp_base.specs.declared.event.Event.{Event};
 ghost use Rattle.hp_core.specs.State.{CoreState};
 ghost use Rattle.hp_text.specs.declared.script.Script.{Script};
 ghost use Rattle.hp_watch.specs.Moments.{IsRunOf, Moment, events_of};
+ghost use Rattle.hp_explore.specs.Explored.{IsExplored};
+ghost use Rattle.hp_explore.specs.declared.line.RunLine.{RunLine};
+ghost use Rattle.hp_every.specs.Scheduled.{IsScheduled, how_many, is_denied, is_kill};
 ghost use Rattle.hp_every.specs.Schedules.{IsSchedule, Place};
 
 /// The moments of a schedule are those of a run of the machine, from a new core of the script's config on. So whatever holds of every run
@@ -10,4 +14,12 @@ ghost use Rattle.hp_every.specs.Schedules.{IsSchedule, Place};
 pub fn a_schedule_is_a_run()
     ensures { (script : Script) (denials kills : ℕ) (first : CoreState) (moments : List Moment) (last : Place)
         → IsSchedule script denials kills first moments last → IsRunOf script.config (events_of moments) first moments }
+{}
+
+/// Each run that an explorer makes is one of the schedules, if so many denials and kills are allowed as it has: they have the same outcomes
+/// and states, moment by moment. So what no schedule does no explorer finds, whatever its seed and its chances.
+pub fn an_explored_run_is_a_schedule()
+    ensures { (script : Script) (seed deny kill run : ℕ) (events : List Event) (line : RunLine) (denials kills : ℕ)
+        → IsExplored script seed deny kill run events line → how_many is_denied events ≤ denials → how_many is_kill events ≤ kills
+        → IsScheduled script denials kills events }
 {}

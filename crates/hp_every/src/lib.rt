@@ -6,7 +6,7 @@
 
 mod laws;
 
-pub use laws::a_schedule_is_a_run;
+pub use laws::{a_schedule_is_a_run, an_explored_run_is_a_schedule};
 
 #[cfg(test)]
 mod tests;

@@ -1,9 +1,10 @@
 //! The laws are there to be cited.
-use crate::a_schedule_is_a_run;
+use crate::{a_schedule_is_a_run, an_explored_run_is_a_schedule};
 use std::test::Fail;
 
 #[test]
 fn laws_are_cited() -> Result<(), Fail> {
     a_schedule_is_a_run();
+    an_explored_run_is_a_schedule();
     Ok(())
 }
