@@ -1,9 +1,8 @@
 -- Each run of an explorer is a schedule, up to denials that no step felt.
-use Rattle.std.proofs.Common.{◌≡◌, ◌⊎◌, ℕ, zero, suc, ◌+◌, ◌<◌, ◌≤◌, ◌%◌, refl, ap, sym, ◌∙◌, subst, inl, inr, arith}
+use Rattle.std.proofs.Common.{◌≡◌, ℕ, zero, suc, ◌+◌, ◌≤◌, ◌%◌, refl, ap, sym, ◌∙◌, subst, inl, inr, arith}
 use Rattle.std.proofs.Common.{List, [], ◌∷◌, ◌++◌, length}
-use Rattle.std.specs.Prelude.{Bool, true, false, not, ◌&&◌, ◌-◌, ◌==◌, nat_lt, nat_le, Option, Some, None, IsSome, is_some, is_none, IsTrue, MatchBool}
+use Rattle.std.specs.Prelude.{Bool, true, false, not, ◌&&◌, ◌-◌, ◌==◌, nat_lt, nat_le, Option, Some, None, is_some, is_none, IsTrue, MatchBool}
 use Rattle.std.specs.Prelude.{if◌then◌else◌, slice_index, slice_set}
-use Rattle.std.specs.List.{All}
 use Rattle.std.specs.Option.{option_map}
 use Rattle.std.proofs.lemmas.List.{append_assoc, append-nil}
 use Rattle.std.proofs.lemmas.List.Elements.{All-append}
@@ -12,15 +11,13 @@ use Rattle.rand_pcg.specs.Lcg.{Lcg}
 use Rattle.hp_base.specs.declared.event.Op.{Op}
 use Rattle.hp_base.specs.declared.event.Event.{Event}
 use Rattle.hp_base.specs.declared.event.Event.TheVariants.{Begin, Step, Kill}
-use Rattle.hp_machine.specs.State.{is_alive, pool_of}
+use Rattle.hp_machine.specs.State.{is_alive}
 use Rattle.hp_machine.specs.Events.{IsReached, word_of}
 use Rattle.hp_machine.specs.Events as events
-use Rattle.hp_machine.specs.Wants.{Wants}
-use Rattle.hp_machine.specs.declared.call.Call.{Call}
 use Rattle.hp_machine.specs.declared.outcome.Life.{Life}
 use Rattle.hp_machine.specs.declared.outcome.Life.TheVariants as life
 use Rattle.hp_machine.specs.declared.outcome.Outcome.{Outcome}
-use Rattle.hp_laws.proofs.Deciding.{clash, never}
+use Rattle.hp_laws.proofs.Deciding.{never}
 use Rattle.hp_laws.proofs.Denials.{same_step}
 use Rattle.hp_core.specs.State.{CoreState, as_state, calls_of}
 use Rattle.hp_core.specs.Readers.{phase_of, life_of}
@@ -30,13 +27,13 @@ use Rattle.hp_core.proofs.InFlight.{some_of}
 use Rattle.hp_core.proofs.Rows.{task_state_wants}
 use Rattle.hp_text.specs.declared.script.Script.{Script}
 use Rattle.hp_watch.specs.Moments.{Moment, IsHistory, events_of, last_of}
-use Rattle.hp_explore.specs.Schedule.{Plan, World, Choice, Turn, CanTurn, AreRunnableOf, IsStart, in_call, next_call, may_begin}
+use Rattle.hp_explore.specs.Schedule.{Plan, World, Choice, Turn, CanTurn, AreRunnableOf, in_call, next_call, may_begin}
 use Rattle.hp_explore.specs.Schedule.{call_choice, kill_choice, choice_of, picked, drawn, word, plan_of}
-use Rattle.hp_explore.specs.Explored.{IsRun, IsExplored, is_done, turn_limit}
+use Rattle.hp_explore.specs.Explored.{IsRun, IsExplored, turn_limit}
 use Rattle.hp_explore.specs.declared.line.RunLine.{RunLine}
 use Rattle.hp_explore.proofs.Others.{all_can}
 use Rattle.hp_explore.proofs.Runnable.{InRange}
-use Rattle.hp_every.specs.Schedules.{Place, AnyTurn, Begins, Steps, Denied, Killed, Leads, first_place, plan_for, world}
+use Rattle.hp_every.specs.Schedules.{Place, AnyTurn, Leads, first_place, plan_for}
 use Rattle.hp_every.specs.Scheduled.{IsScheduled, how_many, is_denied, is_kill, told}
 use Rattle.hp_every.proofs.Wanting.{wants_or_not}
 
@@ -160,7 +157,13 @@ module _ (script : Script) (deny kill : ℕ) (w v : World) (denials kills : ℕ)
           some = some;
           there = there;
           choice = inr (inr (inl (record {
-            busy = busy; can = can; wants = wants; is = is; made = made; denials = less.1; kills = refl;
+            busy = busy;
+            can = can;
+            wants = wants;
+            is = is;
+            made = made;
+            denials = less.1;
+            kills = refl;
           })));
           row = row;
         };
@@ -175,9 +178,11 @@ module _ (script : Script) (deny kill : ℕ) (w v : World) (denials kills : ℕ)
       let call = some_of ((as_state w.core).calls t) (busy_phase word_of ((as_state w.core).calls t) busy) in
       elim (wants_or_not (as_state w.core).pool t call.0) [
         | inl wants ↦ felt (task_state_wants (as_state w.core).pool t ((as_state w.core).calls t) call.0 call.1 wants) is busy made
-        | inr not_wanted ↦ granted
-            ((same_step (as_state w.core) t call.0 outcome (as_state v.core) call.1 not_wanted).0
-            (subst (λ (e : Event). events.Row (as_state w.core) e outcome (as_state v.core)) is row.0), row.1)
+        | inr not_wanted ↦ granted (
+          (same_step (as_state w.core) t call.0 outcome (as_state v.core) call.1 not_wanted).0
+              (subst (λ (e : Event). events.Row (as_state w.core) e outcome (as_state v.core)) is row.0),
+          row.1,
+        )
             busy made
       ]
 

@@ -1,5 +1,5 @@
 -- All schedules of a script, apart from any explorer: the turns that may be made in a place, and where they lead.
-use Rattle.std.specs.Prelude.{◌≡◌, ◌+◌, ◌-◌, ◌≤◌, ◌⊎◌, ℕ, Bool, true, false, List, [], ◌∷◌, Option, Some, All}
+use Rattle.std.specs.Prelude.{◌≡◌, ◌+◌, ◌-◌, ◌≤◌, ◌⊎◌, ℕ, true, false, List, [], ◌∷◌, Some, All}
 use Rattle.std.specs.Prelude.{length, replicate, slice_index, slice_set}
 use Rattle.hp_base.specs.declared.event.Op.{Op}
 use Rattle.hp_base.specs.declared.event.Event.{Event}

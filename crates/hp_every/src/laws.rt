@@ -1,13 +1,14 @@
 //! Laws of all schedules, each said by the contract of a function that does nothing.
-ghost use Rattle.std.specs.Prelude.{◌≤◌, ℕ, List};
+ghost use Rattle.std.specs.Prelude.{◌≡◌, ◌≤◌, ℕ, List};
 ghost use Rattle.hp_base.specs.declared.event.Event.{Event};
 ghost use Rattle.hp_core.specs.State.{CoreState};
 ghost use Rattle.hp_text.specs.declared.script.Script.{Script};
 ghost use Rattle.hp_watch.specs.Moments.{IsRunOf, Moment, events_of};
 ghost use Rattle.hp_explore.specs.Explored.{IsExplored};
 ghost use Rattle.hp_explore.specs.declared.line.RunLine.{RunLine};
+ghost use Rattle.hp_every.specs.Places.{AreOne, IsPlaceOf, place_words};
 ghost use Rattle.hp_every.specs.Scheduled.{IsScheduled, how_many, is_denied, is_kill};
-ghost use Rattle.hp_every.specs.Schedules.{IsSchedule, Place};
+ghost use Rattle.hp_every.specs.Schedules.{IsSchedule, Leads, Place, plan_for};
 
 /// The moments of a schedule are those of a run of the machine, from a new core of the script's config on. So whatever holds of every run
 /// holds of every schedule.
@@ -22,4 +23,13 @@ pub fn an_explored_run_is_a_schedule()
     ensures { (script : Script) (seed deny kill run : ℕ) (events : List Event) (line : RunLine) (denials kills : ℕ)
         → IsExplored script seed deny kill run events line → how_many is_denied events ≤ denials → how_many is_kill events ≤ kills
         → IsScheduled script denials kills events }
+{}
+
+/// Two places with equal words are one place, by whatever schedules they are reached: what follows from the one follows from the other, by the
+/// same moments, and leads to one place again. So a search that has seen the words of a place has seen its whole future.
+pub fn equal_places_have_equal_futures()
+    ensures one { (script : Script) (p q : Place) → IsPlaceOf script p → IsPlaceOf script q → place_words p ≡ place_words q → AreOne p q }
+    ensures futures { (script : Script) (p q : Place) (moments : List Moment) (last : Place)
+        → IsPlaceOf script p → IsPlaceOf script q → place_words p ≡ place_words q → Leads (plan_for script) p moments last
+        → (there : Place) × Leads (plan_for script) q moments there × AreOne last there }
 {}

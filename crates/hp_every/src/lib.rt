@@ -6,7 +6,9 @@
 
 mod laws;
 
-pub use laws::{a_schedule_is_a_run, an_explored_run_is_a_schedule};
+pub use laws::{
+    a_schedule_is_a_run, an_explored_run_is_a_schedule, equal_places_have_equal_futures,
+};
 
 #[cfg(test)]
 mod tests;

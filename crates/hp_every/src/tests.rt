@@ -1,10 +1,11 @@
 //! The laws are there to be cited.
-use crate::{a_schedule_is_a_run, an_explored_run_is_a_schedule};
+use crate::{a_schedule_is_a_run, an_explored_run_is_a_schedule, equal_places_have_equal_futures};
 use std::test::Fail;
 
 #[test]
 fn laws_are_cited() -> Result<(), Fail> {
     a_schedule_is_a_run();
     an_explored_run_is_a_schedule();
+    equal_places_have_equal_futures();
     Ok(())
 }

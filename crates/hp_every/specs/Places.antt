@@ -1,0 +1,28 @@
+-- Places from which the same may follow, and what tells them.
+use Rattle.std.specs.Prelude.{◌≡◌, ◌++◌, ◌∷◌, ℕ, List}
+use Rattle.hp_core.specs.State.{CoreState, as_state}
+use Rattle.hp_text.specs.declared.script.Script.{Script}
+use Rattle.hp_watch.specs.Moments.{Moment}
+use Rattle.hp_key.specs.Key.{key_words}
+use Rattle.hp_key.specs.Numbers.{counted, number_words}
+use Rattle.hp_every.specs.Schedules.{Place, IsSchedule}
+
+-- the words of a place: the denials and kills that are left, how many calls each task has begun, and the key of the core
+abbrev pub place_words : Place → List ℕ
+place_words p = p.denials ∷ p.kills ∷ (counted number_words p.made ++ key_words p.core)
+
+-- some schedule of the script leads there
+pub record IsPlaceOf (script : Script) (p : Place) : Type 0 where
+  pub denials : ℕ
+  pub kills : ℕ
+  pub first : CoreState
+  pub moments : List Moment
+  pub schedule : IsSchedule script denials kills first moments p
+
+-- the machine sees one state in both, and all else is the same
+pub record AreOne (p q : Place) : Type 0 where
+  pub state : as_state p.core ≡ as_state q.core
+  pub sizes : p.core.sizes ≡ q.core.sizes
+  pub made : p.made ≡ q.made
+  pub denials : p.denials ≡ q.denials
+  pub kills : p.kills ≡ q.kills
