@@ -11,6 +11,7 @@ use Rattle.rand_pcg.specs.Lcg.{Lcg}
 use Rattle.hp_base.specs.declared.event.Op.{Op}
 use Rattle.hp_base.specs.declared.event.Event.{Event}
 use Rattle.hp_base.specs.declared.event.Event.TheVariants.{Begin, Step, Kill}
+use Rattle.hp_audit.specs.declared.finding.Finding.{Finding}
 use Rattle.hp_machine.specs.State.{is_alive}
 use Rattle.hp_machine.specs.Events.{IsReached, word_of}
 use Rattle.hp_machine.specs.Events as events
@@ -29,12 +30,15 @@ use Rattle.hp_text.specs.declared.script.Script.{Script}
 use Rattle.hp_watch.specs.Moments.{Moment, IsHistory, events_of, last_of}
 use Rattle.hp_explore.specs.Schedule.{Plan, World, Choice, Turn, CanTurn, AreRunnableOf, in_call, next_call, may_begin}
 use Rattle.hp_explore.specs.Schedule.{call_choice, kill_choice, choice_of, picked, drawn, word, plan_of}
-use Rattle.hp_explore.specs.Explored.{IsRun, IsExplored, turn_limit}
+use Rattle.hp_explore.specs.Explored.{IsRun, IsExplored, all_done, turn_limit}
+use Rattle.hp_explore.specs.declared.line.Finish.{Finish}
+use Rattle.hp_explore.specs.declared.line.Finish.TheVariants.{Finished, Found}
 use Rattle.hp_explore.specs.declared.line.RunLine.{RunLine}
 use Rattle.hp_explore.proofs.Others.{all_can}
 use Rattle.hp_explore.proofs.Runnable.{InRange}
 use Rattle.hp_every.specs.Schedules.{Place, AnyTurn, Leads, first_place, plan_for}
-use Rattle.hp_every.specs.Scheduled.{IsScheduled, how_many, is_denied, is_kill, told}
+use Rattle.hp_every.specs.Scheduled.{IsScheduled, asked, how_many, is_denied, is_kill, told}
+use Rattle.hp_every.proofs.Ending.{done_ends, idle_done, last_done, second_true}
 use Rattle.hp_every.proofs.Wanting.{wants_or_not}
 
 -- the run between two turns as a place in a schedule
@@ -51,6 +55,7 @@ record Goes (script : Script) (w : World) (denials kills : ℕ) (event : Event) 
   pub lives : ℕ
   pub taken : Event
   pub turn : AnyTurn (plan_for script) (at w denials kills) taken outcome (at v left lives)
+  pub alike : asked taken ≡ asked event
   pub denied : denials ≤ one_if (is_denied event) + left
   pub killed : kills ≤ one_if (is_kill event) + lives
 
@@ -76,11 +81,6 @@ alive_told : (l : Life) → is_alive l ≡ true → l ≡ life.Alive
 alive_told life.Alive e = refl
 alive_told life.Killed e = never e
 alive_told life.Dead e = never e
-
--- of two tests that both pass the second does
-second_true : (a b : Bool) → (a && b) ≡ true → b ≡ true
-second_true true b e = e
-second_true false b e = never e
 
 -- a call that is in flight has a phase
 busy_phase : {A B : Type 0} (f : A → B) (o : Option A) → is_some (option_map f o) ≡ true → is_some o ≡ true
@@ -121,13 +121,14 @@ module _ (script : Script) (deny kill : ℕ) (w v : World) (denials kills : ℕ)
           inl (record { idle = idle; can = can; op = op; next = next; is = is; made = made; denials = refl; kills = refl });
       row = row;
     };
+    alike = refl;
     denied = omega arith;
     killed = omega arith;
   }
 
   -- a step is granted, or felt no denial
-  granted : Row w.core (Step t true) outcome v.core → in_call w t ≡ true → v.made ≡ w.made → Goes script w denials kills event outcome v
-  granted same busy made = record {
+  granted : (grant : Bool) → event ≡ Step t grant → Row w.core (Step t true) outcome v.core → in_call w t ≡ true → v.made ≡ w.made → Goes script w denials kills event outcome v
+  granted grant is same busy made = record {
     left = denials;
     lives = kills;
     taken = Step t true;
@@ -138,6 +139,7 @@ module _ (script : Script) (deny kill : ℕ) (w v : World) (denials kills : ℕ)
       choice = inr (inl (record { busy = busy; can = can; is = refl; made = made; denials = refl; kills = refl }));
       row = same;
     };
+    alike = sym (ap (λ (e : Event). asked e) is);
     denied = omega arith;
     killed = omega arith;
   }
@@ -167,6 +169,7 @@ module _ (script : Script) (deny kill : ℕ) (w v : World) (denials kills : ℕ)
           })));
           row = row;
         };
+        alike = refl;
         denied = omega (arith, one, less.1);
         killed = omega arith;
       }
@@ -178,7 +181,7 @@ module _ (script : Script) (deny kill : ℕ) (w v : World) (denials kills : ℕ)
       let call = some_of ((as_state w.core).calls t) (busy_phase word_of ((as_state w.core).calls t) busy) in
       elim (wants_or_not (as_state w.core).pool t call.0) [
         | inl wants ↦ felt (task_state_wants (as_state w.core).pool t ((as_state w.core).calls t) call.0 call.1 wants) is busy made
-        | inr not_wanted ↦ granted (
+        | inr not_wanted ↦ granted false is (
           (same_step (as_state w.core) t call.0 outcome (as_state v.core) call.1 not_wanted).0
               (subst (λ (e : Event). events.Row (as_state w.core) e outcome (as_state v.core)) is row.0),
           row.1,
@@ -188,7 +191,7 @@ module _ (script : Script) (deny kill : ℕ) (w v : World) (denials kills : ℕ)
 
   -- a step, granted or not
   stepped : (grant : Bool) → event ≡ Step t grant → in_call w t ≡ true → v.made ≡ w.made → Goes script w denials kills event outcome v
-  stepped true is busy made = granted (subst (λ (e : Event). Row w.core e outcome v.core) is row) busy made
+  stepped true is busy made = granted true is (subst (λ (e : Event). Row w.core e outcome v.core) is row) busy made
   stepped false is busy made = refused is busy made
 
   -- the task is killed
@@ -214,6 +217,7 @@ module _ (script : Script) (deny kill : ℕ) (w v : World) (denials kills : ℕ)
           })));
           row = row;
         };
+        alike = refl;
         denied = omega arith;
         killed = omega (arith, one, less.1);
       }
@@ -261,6 +265,10 @@ goes script deny kill w v denials kills event turn may_deny may_kill =
     (λ hit. alive_told (life_of w.core t) (second_true _ _ hit))
     (choice_of plan w turn.tasks) refl turn.chosen turn.made
 
+-- a run that an audit stops isn't finished
+not_found : {P : Type 0} (found : Finding) → Found found ≡ Finished → P
+not_found found e = absurd (cc)
+
 -- a run and a schedule up to here, and the run's rest
 module _ (script : Script) (deny kill run : ℕ) (line : RunLine) (most_denials most_kills : ℕ) (first : CoreState)
     (opening : IsOpening script.config first) where
@@ -278,8 +286,9 @@ module _ (script : Script) (deny kill run : ℕ) (line : RunLine) (most_denials 
 
   -- nothing is left
   ends : (made : List Moment) (w : World) (rest : List Event) → SoFar made w rest → rest ≡ []
-      → IsScheduled script most_denials most_kills (events_of made ++ rest)
-  ends made w rest so_far none = record {
+      → (line.finish ≡ Finished → all_done (plan_for script) w ≡ true)
+      → IsScheduled script most_denials most_kills (events_of made ++ rest) line.finish
+  ends made w rest so_far none done = record {
     first = first;
     made = made;
     run = record {
@@ -291,6 +300,7 @@ module _ (script : Script) (deny kill run : ℕ) (line : RunLine) (most_denials 
     last = at w so_far.denials so_far.kills;
     schedule = record { opening = opening; leads = so_far.leads };
     same = so_far.same;
+    ended = λ finished. done_ends (plan_for script) (at w so_far.denials so_far.kills) (done finished);
   }
 
   -- one turn more
@@ -313,32 +323,34 @@ module _ (script : Script) (deny kill run : ℕ) (line : RunLine) (most_denials 
         denials = on.left;
         kills = on.lives;
         leads = (at w so_far.denials so_far.kills, so_far.leads, refl, on.turn);
-        same = λ i. (turn.outcome, v.core) ∷ so_far.same i;
+        same = λ i. (on.alike i, (turn.outcome, v.core)) ∷ so_far.same i;
         denied = omega (arith, d, felt);
         killed = omega (arith, k, slain);
       }
 
   -- the whole rest
   walk : (left : ℕ) (made : List Moment) (w : World) (rest : List Event) → SoFar made w rest
-      → IsRun (plan_of script deny kill) run left w rest line → IsScheduled script most_denials most_kills (events_of made ++ rest)
+      → IsRun (plan_of script deny kill) run left w rest line → IsScheduled script most_denials most_kills (events_of made ++ rest) line.finish
   unfolding IsRun
-  walk zero made w rest so_far (tasks, idle, none, is) = ends made w rest so_far none
-  walk (suc left) made w rest so_far (inl (idle, none, is)) = ends made w rest so_far none
+  walk zero made w rest so_far (tasks, idle, none, is) =
+      ends made w rest so_far none (λ finished. last_done (plan_for script) w tasks (sym (ap (λ (l : RunLine). l.finish) is) ∙ finished))
+  walk (suc left) made w rest so_far (inl (idle, none, is)) =
+      ends made w rest so_far none (λ finished. idle_done (plan_for script) w (sym (ap (λ (l : RunLine). l.finish) is) ∙ finished))
   walk (suc left) made w rest so_far (inr (event, others, v, events, turn, after)) =
       let on = more made w v event others (subst (SoFar made w) events so_far) turn in
       let now : List Moment = moment w v event turn ∷ made in
-      let whole : IsScheduled script most_denials most_kills (events_of now ++ others) = elim after [
+      let whole : IsScheduled script most_denials most_kills (events_of now ++ others) line.finish = elim after [
         | inl goes_on ↦ walk left now v others on goes_on.1
-        | inr found ↦ ends now v others on found.2
+        | inr found ↦ ends now v others on found.2 (λ finished. not_found found.0 (sym (ap (λ (l : RunLine). l.finish) found.3) ∙ finished))
       ] in
       let spelled : events_of now ++ others ≡ events_of made ++ rest =
       append_assoc (events_of made) (event ∷ []) others ∙ ap (λ (es : List Event). events_of made ++ es) (sym events) in
-      subst (IsScheduled script most_denials most_kills) spelled whole
+      subst (λ (es : List Event). IsScheduled script most_denials most_kills es line.finish) spelled whole
 
 -- each explored run is a schedule
 pub scheduled : (script : Script) (seed deny kill run : ℕ) (events : List Event) (line : RunLine) (denials kills : ℕ)
     → IsExplored script seed deny kill run events line → how_many is_denied events ≤ denials → how_many is_kill events ≤ kills
-    → IsScheduled script denials kills events
+    → IsScheduled script denials kills events line.finish
 unfolding IsExplored IsHistory Leads
 scheduled script seed deny kill run events line denials kills (w, start, runs) few_denials few_kills =
     walk script deny kill run line denials kills w.core start.core turn_limit [] w events

@@ -22,7 +22,7 @@ pub fn a_schedule_is_a_run()
 pub fn an_explored_run_is_a_schedule()
     ensures { (script : Script) (seed deny kill run : ℕ) (events : List Event) (line : RunLine) (denials kills : ℕ)
         → IsExplored script seed deny kill run events line → how_many is_denied events ≤ denials → how_many is_kill events ≤ kills
-        → IsScheduled script denials kills events }
+        → IsScheduled script denials kills events line.finish }
 {}
 
 /// Two places with equal words are one place, by whatever schedules they are reached: what follows from the one follows from the other, by the
