@@ -5,10 +5,13 @@ ghost use Rattle.hp_core.specs.State.{CoreState};
 ghost use Rattle.hp_text.specs.declared.script.Script.{Script};
 ghost use Rattle.hp_watch.specs.Moments.{IsRunOf, Moment, events_of};
 ghost use Rattle.hp_explore.specs.Explored.{IsExplored};
+ghost use Rattle.hp_explore.specs.declared.line.Finish.TheVariants.{Finished};
 ghost use Rattle.hp_explore.specs.declared.line.RunLine.{RunLine};
+ghost use Rattle.hp_hunt.specs.Conditions.{SomeRunMisses};
+ghost use Rattle.hp_hunt.specs.declared.condition.Condition.{Condition};
 ghost use Rattle.hp_every.specs.Places.{AreOne, IsPlaceOf, place_words};
 ghost use Rattle.hp_every.specs.Scheduled.{IsScheduled, how_many, is_denied, is_kill};
-ghost use Rattle.hp_every.specs.Schedules.{IsSchedule, Leads, Place, plan_for};
+ghost use Rattle.hp_every.specs.Schedules.{IsSchedule, Leads, NoScheduleMeets, Place, plan_for};
 
 /// The moments of a schedule are those of a run of the machine, from a new core of the script's config on. So whatever holds of every run
 /// holds of every schedule.
@@ -23,6 +26,16 @@ pub fn an_explored_run_is_a_schedule()
     ensures { (script : Script) (seed deny kill run : ℕ) (events : List Event) (line : RunLine) (denials kills : ℕ)
         → IsExplored script seed deny kill run events line → how_many is_denied events ≤ denials → how_many is_kill events ≤ kills
         → IsScheduled script denials kills events line.finish }
+{}
+
+/// Where no schedule meets the conditions, no run that an explorer makes and finishes with at most so many denials and kills meets them,
+/// whatever its seed and its chances.
+pub fn what_no_schedule_meets_no_run_meets()
+    ensures { (script : Script) (seed deny kill run : ℕ) (events : List Event) (line : RunLine) (denials kills : ℕ)
+        (conditions : List Condition)
+        → NoScheduleMeets script denials kills conditions → IsExplored script seed deny kill run events line
+        → how_many is_denied events ≤ denials → how_many is_kill events ≤ kills → line.finish ≡ Finished
+        → SomeRunMisses script.config events conditions }
 {}
 
 /// Two places with equal words are one place, by whatever schedules they are reached: what follows from the one follows from the other, by the
