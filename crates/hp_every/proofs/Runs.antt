@@ -1,11 +1,14 @@
 -- A schedule is a run of the machine.
-use Rattle.std.proofs.Common.{◌≡◌, ℕ, refl, ap, sym, subst, List, [], ◌∷◌}
+use Rattle.std.proofs.Common.{◌≡◌, ◌∙◌, ℕ, ◌+◌, refl, ap, sym, subst, arith, List, [], ◌∷◌, ◌++◌, length, length-append}
+use Rattle.hp_base.specs.declared.event.Event.{Event}
 use Rattle.hp_core.specs.State.{CoreState}
 use Rattle.hp_core.specs.Runs.{Row}
 use Rattle.hp_text.specs.declared.script.Script.{Script}
 use Rattle.hp_watch.specs.Moments.{Moment, IsHistory, IsRunOf, events_of, last_of}
 use Rattle.hp_explore.specs.Schedule.{Plan}
-use Rattle.hp_every.specs.Schedules.{Place, Leads, IsSchedule}
+use Rattle.hp_hunt.specs.Conditions.{SomeRunMeets}
+use Rattle.hp_hunt.specs.declared.condition.Condition.{Condition}
+use Rattle.hp_every.specs.Schedules.{IsSchedule, IsShortest, Leads, Place}
 
 -- turn by turn it is a history, and leads where the moments do
 pub history : (plan : Plan) (first : Place) (moments : List Moment) (last : Place) → Leads plan first moments last
@@ -24,3 +27,31 @@ run_of script denials kills first moments last schedule = record {
   history = (history _ _ moments last schedule.leads).0;
   made = refl;
 }
+
+-- as many events as moments
+event_count : (moments : List Moment) → length (events_of moments) ≡ length moments
+event_count [] = refl
+event_count (m ∷ before) =
+    length-append (events_of before) (m.event ∷ []) ∙ (ap (λ (n : ℕ). n + 1) (event_count before) ∙ omega arith)
+
+-- a shortest schedule is a run that meets the conditions,
+pub shortest_meets : (script : Script) (denials kills : ℕ) (conditions : List Condition) (events : List Event)
+    → IsShortest script denials kills conditions events → SomeRunMeets script.config events conditions
+shortest_meets script denials kills conditions events h = record {
+  first = h.meets.first;
+  moments = h.moments;
+  run = subst (λ (es : List Event). IsRunOf script.config es h.meets.first h.moments) h.made
+      (run_of script denials kills h.meets.first h.moments h.meets.last h.meets.schedule);
+  meets = h.meets.meets;
+}
+
+-- and all that are shortest have as many events
+pub one_length : (script : Script) (denials kills : ℕ) (conditions : List Condition) (events others : List Event)
+    → IsShortest script denials kills conditions events → IsShortest script denials kills conditions others
+    → length events ≡ length others
+one_length script denials kills conditions events others h g =
+    let here : length events ≡ length h.moments = ap (λ (es : List Event). length es) (sym h.made) ∙ event_count h.moments in
+    let there : length others ≡ length g.moments = ap (λ (es : List Event). length es) (sym g.made) ∙ event_count g.moments in
+    let low = h.shortest g.moments g.meets in
+    let high = g.shortest h.moments h.meets in
+    omega (arith, here, there, low, high)

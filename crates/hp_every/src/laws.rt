@@ -1,5 +1,5 @@
 //! Laws of all schedules, each said by the contract of a function that does nothing.
-ghost use Rattle.std.specs.Prelude.{◌≡◌, ◌≤◌, ℕ, List};
+ghost use Rattle.std.specs.Prelude.{◌≡◌, ◌≤◌, ℕ, List, length};
 ghost use Rattle.hp_base.specs.declared.event.Event.{Event};
 ghost use Rattle.hp_core.specs.State.{CoreState};
 ghost use Rattle.hp_text.specs.declared.script.Script.{Script};
@@ -7,11 +7,11 @@ ghost use Rattle.hp_watch.specs.Moments.{IsRunOf, Moment, events_of};
 ghost use Rattle.hp_explore.specs.Explored.{IsExplored};
 ghost use Rattle.hp_explore.specs.declared.line.Finish.TheVariants.{Finished};
 ghost use Rattle.hp_explore.specs.declared.line.RunLine.{RunLine};
-ghost use Rattle.hp_hunt.specs.Conditions.{SomeRunMisses};
+ghost use Rattle.hp_hunt.specs.Conditions.{SomeRunMeets, SomeRunMisses};
 ghost use Rattle.hp_hunt.specs.declared.condition.Condition.{Condition};
 ghost use Rattle.hp_every.specs.Places.{AreOne, IsPlaceOf, place_words};
 ghost use Rattle.hp_every.specs.Scheduled.{IsScheduled, how_many, is_denied, is_kill};
-ghost use Rattle.hp_every.specs.Schedules.{IsSchedule, Leads, NoScheduleMeets, Place, plan_for};
+ghost use Rattle.hp_every.specs.Schedules.{IsSchedule, IsShortest, Leads, NoScheduleMeets, Place, plan_for};
 
 /// The moments of a schedule are those of a run of the machine, from a new core of the script's config on. So whatever holds of every run
 /// holds of every schedule.
@@ -36,6 +36,15 @@ pub fn what_no_schedule_meets_no_run_meets()
         → NoScheduleMeets script denials kills conditions → IsExplored script seed deny kill run events line
         → how_many is_denied events ≤ denials → how_many is_kill events ≤ kills → line.finish ≡ Finished
         → SomeRunMisses script.config events conditions }
+{}
+
+/// A shortest schedule that meets the conditions is a run of the machine that meets them, and all shortest have as many events.
+pub fn a_shortest_schedule_is_a_run()
+    ensures meets { (script : Script) (denials kills : ℕ) (conditions : List Condition) (events : List Event)
+        → IsShortest script denials kills conditions events → SomeRunMeets script.config events conditions }
+    ensures length { (script : Script) (denials kills : ℕ) (conditions : List Condition) (events others : List Event)
+        → IsShortest script denials kills conditions events → IsShortest script denials kills conditions others
+        → length events ≡ length others }
 {}
 
 /// Two places with equal words are one place, by whatever schedules they are reached: what follows from the one follows from the other, by the

@@ -1,12 +1,13 @@
 //! The laws are there to be cited.
 use crate::{
-    a_schedule_is_a_run, an_explored_run_is_a_schedule, equal_places_have_equal_futures, what_no_schedule_meets_no_run_meets,
+    a_schedule_is_a_run, a_shortest_schedule_is_a_run, an_explored_run_is_a_schedule, equal_places_have_equal_futures, what_no_schedule_meets_no_run_meets,
 };
 use std::test::Fail;
 
 #[test]
 fn laws_are_cited() -> Result<(), Fail> {
     a_schedule_is_a_run();
+    a_shortest_schedule_is_a_run();
     an_explored_run_is_a_schedule();
     equal_places_have_equal_futures();
     what_no_schedule_meets_no_run_meets();
