@@ -1,5 +1,7 @@
 -- Places from which the same may follow, and what tells them.
-use Rattle.std.specs.Prelude.{◌≡◌, ◌++◌, ◌∷◌, ℕ, List}
+use Rattle.std.specs.Prelude.{◌≡◌, ◌++◌, ◌∷◌, ℕ, List, []}
+use Rattle.hp_machine.specs.declared.outcome.Outcome.{Outcome}
+use Rattle.hp_sequential.specs.Renaming.{Alike}
 use Rattle.hp_core.specs.State.{CoreState, as_state}
 use Rattle.hp_text.specs.declared.script.Script.{Script}
 use Rattle.hp_watch.specs.Moments.{Moment}
@@ -26,3 +28,16 @@ pub record AreOne (p q : Place) : Type 0 where
   pub made : p.made ≡ q.made
   pub denials : p.denials ≡ q.denials
   pub kills : p.kills ≡ q.kills
+
+-- the frames of the one have other names in the other, and all else is the same
+pub record AreAlike (p q : Place) : Type 0 where
+  pub state : Alike (as_state p.core) (as_state q.core)
+  pub sizes : p.core.sizes ≡ q.core.sizes
+  pub made : p.made ≡ q.made
+  pub denials : p.denials ≡ q.denials
+  pub kills : p.kills ≡ q.kills
+
+-- what came of each moment, the latest first
+abbrev pub outcomes_of : List Moment → List Outcome
+outcomes_of [] = []
+outcomes_of (m ∷ before) = m.outcome ∷ outcomes_of before

@@ -9,7 +9,7 @@ ghost use Rattle.hp_explore.specs.declared.line.Finish.TheVariants.{Finished};
 ghost use Rattle.hp_explore.specs.declared.line.RunLine.{RunLine};
 ghost use Rattle.hp_hunt.specs.Conditions.{SomeRunMeets, SomeRunMisses};
 ghost use Rattle.hp_hunt.specs.declared.condition.Condition.{Condition};
-ghost use Rattle.hp_every.specs.Places.{AreOne, IsPlaceOf, place_words};
+ghost use Rattle.hp_every.specs.Places.{AreAlike, AreOne, IsPlaceOf, outcomes_of, place_words};
 ghost use Rattle.hp_every.specs.Scheduled.{IsScheduled, how_many, is_denied, is_kill};
 ghost use Rattle.hp_every.specs.Schedules.{IsSchedule, IsShortest, Leads, NoScheduleMeets, Place, plan_for};
 
@@ -54,4 +54,12 @@ pub fn equal_places_have_equal_futures()
     ensures futures { (script : Script) (p q : Place) (moments : List Moment) (last : Place)
         → IsPlaceOf script p → IsPlaceOf script q → place_words p ≡ place_words q → Leads (plan_for script) p moments last
         → (there : Place) × Leads (plan_for script) q moments there × AreOne last there }
+{}
+
+/// Which free frame is taken doesn't show in a schedule: two of the same events have the same outcomes, and lead to places that differ in the
+/// names of frames alone. So a list of events tells the place, up to these names.
+pub fn events_lead_to_one_place()
+    ensures { (script : Script) (denials kills : ℕ) (first other : CoreState) (moments others : List Moment) (p q : Place)
+        → IsSchedule script denials kills first moments p → IsSchedule script denials kills other others q
+        → events_of moments ≡ events_of others → (outcomes_of moments ≡ outcomes_of others) × AreAlike p q }
 {}

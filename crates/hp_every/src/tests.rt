@@ -1,6 +1,6 @@
 //! The laws are there to be cited.
 use crate::{
-    a_schedule_is_a_run, a_shortest_schedule_is_a_run, an_explored_run_is_a_schedule, equal_places_have_equal_futures, what_no_schedule_meets_no_run_meets,
+    a_schedule_is_a_run, a_shortest_schedule_is_a_run, an_explored_run_is_a_schedule, equal_places_have_equal_futures, events_lead_to_one_place, what_no_schedule_meets_no_run_meets,
 };
 use std::test::Fail;
 
@@ -10,6 +10,7 @@ fn laws_are_cited() -> Result<(), Fail> {
     a_shortest_schedule_is_a_run();
     an_explored_run_is_a_schedule();
     equal_places_have_equal_futures();
+    events_lead_to_one_place();
     what_no_schedule_meets_no_run_meets();
     Ok(())
 }
