@@ -7,9 +7,8 @@ use Rattle.hp_base.specs.declared.event.Op.{Op}
 use Rattle.hp_laws.proofs.Deciding.{clash, never}
 use Rattle.hp_explore.specs.Schedule.{Plan, World, next_call, in_call}
 use Rattle.hp_explore.specs.Explored.{all_done, idle_finish, is_done, last_finish}
-use Rattle.hp_explore.specs.declared.line.Finish.{Finish}
-use Rattle.hp_explore.specs.declared.line.Finish.TheVariants.{Finished, Stuck, Limit}
-use Rattle.hp_every.specs.Schedules.{AnyTurn, Ends, Place, world}
+use Rattle.hp_explore.specs.declared.line.Finish.TheVariants.{Finished, Stuck}
+use Rattle.hp_every.specs.Schedules.{Ends, Place, world}
 
 -- of two tests that both pass
 pub first_true : (a b : Bool) → (a && b) ≡ true → a ≡ true

@@ -1,8 +1,8 @@
 -- Each run of an explorer is a schedule, up to denials that no step felt.
 use Rattle.std.proofs.Common.{◌≡◌, ℕ, zero, suc, ◌+◌, ◌≤◌, ◌%◌, refl, ap, sym, ◌∙◌, subst, inl, inr, arith}
 use Rattle.std.proofs.Common.{List, [], ◌∷◌, ◌++◌, length}
-use Rattle.std.specs.Prelude.{Bool, true, false, not, ◌&&◌, ◌-◌, ◌==◌, nat_lt, nat_le, Option, Some, None, is_some, is_none, IsTrue, MatchBool}
-use Rattle.std.specs.Prelude.{if◌then◌else◌, slice_index, slice_set}
+use Rattle.std.specs.Prelude.{Bool, true, false, not, ◌&&◌, ◌-◌, ◌==◌, nat_lt, nat_le, Option, Some, None}
+use Rattle.std.specs.Prelude.{is_some, is_none, IsTrue, MatchBool, if◌then◌else◌, slice_index, slice_set}
 use Rattle.std.specs.Option.{option_map}
 use Rattle.std.proofs.lemmas.List.{append_assoc, append-nil}
 use Rattle.std.proofs.lemmas.List.Elements.{All-append}
@@ -31,7 +31,6 @@ use Rattle.hp_watch.specs.Moments.{Moment, IsHistory, events_of, last_of}
 use Rattle.hp_explore.specs.Schedule.{Plan, World, Choice, Turn, CanTurn, AreRunnableOf, in_call, next_call, may_begin}
 use Rattle.hp_explore.specs.Schedule.{call_choice, kill_choice, choice_of, picked, drawn, word, plan_of}
 use Rattle.hp_explore.specs.Explored.{IsRun, IsExplored, all_done, turn_limit}
-use Rattle.hp_explore.specs.declared.line.Finish.{Finish}
 use Rattle.hp_explore.specs.declared.line.Finish.TheVariants.{Finished, Found}
 use Rattle.hp_explore.specs.declared.line.RunLine.{RunLine}
 use Rattle.hp_explore.proofs.Others.{all_can}
@@ -127,7 +126,8 @@ module _ (script : Script) (deny kill : ℕ) (w v : World) (denials kills : ℕ)
   }
 
   -- a step is granted, or felt no denial
-  granted : (grant : Bool) → event ≡ Step t grant → Row w.core (Step t true) outcome v.core → in_call w t ≡ true → v.made ≡ w.made → Goes script w denials kills event outcome v
+  granted : (grant : Bool) → event ≡ Step t grant → Row w.core (Step t true) outcome v.core → in_call w t ≡ true → v.made ≡ w.made
+      → Goes script w denials kills event outcome v
   granted grant is same busy made = record {
     left = denials;
     lives = kills;
@@ -330,7 +330,8 @@ module _ (script : Script) (deny kill run : ℕ) (line : RunLine) (most_denials 
 
   -- the whole rest
   walk : (left : ℕ) (made : List Moment) (w : World) (rest : List Event) → SoFar made w rest
-      → IsRun (plan_of script deny kill) run left w rest line → IsScheduled script most_denials most_kills (events_of made ++ rest) line.finish
+      → IsRun (plan_of script deny kill) run left w rest line
+      → IsScheduled script most_denials most_kills (events_of made ++ rest) line.finish
   unfolding IsRun
   walk zero made w rest so_far (tasks, idle, none, is) =
       ends made w rest so_far none (λ finished. last_done (plan_for script) w tasks (sym (ap (λ (l : RunLine). l.finish) is) ∙ finished))

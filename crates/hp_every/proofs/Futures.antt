@@ -68,7 +68,7 @@ same_words script p q some other e =
     }
 
 -- the call in flight wants memory
-abbrev StateWants : State → ℕ → Type 0
+abbrev pub StateWants : State → ℕ → Type 0
 StateWants s t = IsSomeAnd (s.calls t) (λ call. Wants s.pool t call)
 
 -- one place looks alike

@@ -1,7 +1,6 @@
 -- A run and a schedule that tell the same meet the same conditions.
-use Rattle.std.proofs.Common.{◌≡◌, ◌⊎◌, ℕ, ◌+◌, refl, ap, sym, ◌∙◌, subst, inl, inr, List, [], ◌∷◌}
-use Rattle.std.specs.Prelude.{Bool, true, false, ◌&&◌, ◌==◌, Some, if◌then◌else◌}
-use Rattle.std.specs.List.{All}
+use Rattle.std.proofs.Common.{◌≡◌, ℕ, ◌+◌, refl, ap, sym, ◌∙◌, subst, inl, inr, List, [], ◌∷◌}
+use Rattle.std.specs.Prelude.{◌&&◌, Some, if◌then◌else◌}
 use Rattle.hp_base.specs.declared.event.Event.{Event}
 use Rattle.hp_base.specs.declared.event.Event.TheVariants.{Begin, Step, Kill, Resize}
 use Rattle.hp_machine.specs.declared.outcome.Outcome.{Outcome}
@@ -10,11 +9,9 @@ use Rattle.hp_core.specs.Readers.{phase_of}
 use Rattle.hp_core.specs.Waiting.{WaitsFor}
 use Rattle.hp_text.specs.declared.script.Script.{Script}
 use Rattle.hp_watch.specs.Moments.{Moment, Once, last_of}
-use Rattle.hp_explore.specs.Explored.{IsExplored}
 use Rattle.hp_explore.specs.Schedule.{Plan}
-use Rattle.hp_explore.specs.declared.line.Finish.{Finish}
 use Rattle.hp_explore.specs.declared.line.Finish.TheVariants.{Finished}
-use Rattle.hp_hunt.specs.Conditions.{EndsWith, IsMetAt, IsStepOf, Meets, MeetsAll, SomeRunMisses, calls_begun, count_of, is_begin, is_begun}
+use Rattle.hp_hunt.specs.Conditions.{EndsWith, IsMetAt, IsStepOf, Meets, SomeRunMisses, calls_begun, count_of, is_begin, is_begun}
 use Rattle.hp_hunt.specs.declared.condition.Condition.{Condition}
 use Rattle.hp_hunt.specs.declared.condition.Condition.TheVariants as condition
 use Rattle.hp_every.specs.Schedules.{Ends, IsLookedAt, NoScheduleMeets, Place, plan_for}

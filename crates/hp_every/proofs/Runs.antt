@@ -1,5 +1,5 @@
 -- A schedule is a run of the machine.
-use Rattle.std.proofs.Common.{◌≡◌, ◌∙◌, ℕ, ◌+◌, refl, ap, sym, subst, arith, List, [], ◌∷◌, ◌++◌, length, length-append}
+use Rattle.std.proofs.Common.{◌≡◌, ◌∙◌, ℕ, ◌+◌, refl, ap, sym, subst, arith, List, [], ◌∷◌, length, length-append}
 use Rattle.hp_base.specs.declared.event.Event.{Event}
 use Rattle.hp_core.specs.State.{CoreState}
 use Rattle.hp_core.specs.Runs.{Row}

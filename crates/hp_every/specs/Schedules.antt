@@ -17,7 +17,7 @@ use Rattle.hp_hunt.specs.Conditions.{MeetsAll}
 use Rattle.hp_hunt.specs.declared.condition.Condition.{Condition}
 use Rattle.hp_hunt.specs.declared.condition.Condition.TheVariants as condition
 
--- a place in some schedule: the core, how many of its calls each task has begun, and how many steps may be denied and tasks killed from here on
+-- a place in some schedule: the core, how many of its calls each task has begun, how many steps may still be denied and tasks killed
 pub record Place : Type 0 where
   pub core : CoreState
   pub made : List ℕ
@@ -90,8 +90,8 @@ abbrev pub first_place : Script → (denials kills : ℕ) → CoreState → Plac
 first_place script denials kills first =
     record { core = first; made = replicate script.config.tasks 0; denials = denials; kills = kills }
 
--- These moments are those of a schedule of the script, from a new core to that place. At most so many steps are denied and tasks killed. It
--- may go on from there.
+-- These moments are those of a schedule of the script, from a new core to that place, with at most so many denied steps and killed tasks.
+-- It may go on from there.
 pub record IsSchedule (script : Script) (denials kills : ℕ) (first : CoreState) (moments : List Moment) (last : Place) : Type 0 where
   pub opening : IsOpening script.config first
   pub leads : Leads (plan_for script) (first_place script denials kills first) moments last

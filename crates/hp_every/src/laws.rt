@@ -1,7 +1,9 @@
 //! Laws of all schedules, each said by the contract of a function that does nothing.
 ghost use Rattle.std.specs.Prelude.{◌≡◌, ◌≤◌, ℕ, List, length};
 ghost use Rattle.hp_base.specs.declared.event.Event.{Event};
+ghost use Rattle.hp_machine.specs.declared.outcome.Outcome.{Outcome};
 ghost use Rattle.hp_core.specs.State.{CoreState};
+ghost use Rattle.hp_core.specs.Runs.{Row};
 ghost use Rattle.hp_text.specs.declared.script.Script.{Script};
 ghost use Rattle.hp_watch.specs.Moments.{IsRunOf, Moment, events_of};
 ghost use Rattle.hp_explore.specs.Explored.{IsExplored};
@@ -11,7 +13,7 @@ ghost use Rattle.hp_hunt.specs.Conditions.{SomeRunMeets, SomeRunMisses};
 ghost use Rattle.hp_hunt.specs.declared.condition.Condition.{Condition};
 ghost use Rattle.hp_every.specs.Places.{AreAlike, AreOne, IsPlaceOf, outcomes_of, place_words};
 ghost use Rattle.hp_every.specs.Scheduled.{IsScheduled, how_many, is_denied, is_kill};
-ghost use Rattle.hp_every.specs.Schedules.{IsSchedule, IsShortest, Leads, NoScheduleMeets, Place, plan_for};
+ghost use Rattle.hp_every.specs.Schedules.{AnyTurn, IsSchedule, IsShortest, Leads, NoScheduleMeets, Place, plan_for};
 
 /// The moments of a schedule are those of a run of the machine, from a new core of the script's config on. So whatever holds of every run
 /// holds of every schedule.
@@ -28,9 +30,9 @@ pub fn an_explored_run_is_a_schedule()
         → IsScheduled script denials kills events line.finish }
 {}
 
-/// Where no schedule meets the conditions, no run that an explorer makes and finishes with at most so many denials and kills meets them,
-/// whatever its seed and its chances.
-pub fn what_no_schedule_meets_no_run_meets()
+/// Where no schedule meets the conditions, each run that an explorer makes and finishes, with at most so many denials and kills, misses one
+/// of them, whatever its seed and its chances.
+pub fn what_no_schedule_meets_explored_runs_miss()
     ensures { (script : Script) (seed deny kill run : ℕ) (events : List Event) (line : RunLine) (denials kills : ℕ)
         (conditions : List Condition)
         → NoScheduleMeets script denials kills conditions → IsExplored script seed deny kill run events line
@@ -47,8 +49,8 @@ pub fn a_shortest_schedule_is_a_run()
         → length events ≡ length others }
 {}
 
-/// Two places with equal words are one place, by whatever schedules they are reached: what follows from the one follows from the other, by the
-/// same moments, and leads to one place again. So a search that has seen the words of a place has seen its whole future.
+/// Two places with equal words are one place, by whatever schedules they are reached: what follows from the one follows from the other, by
+/// the same moments, and leads to one place again. So a search that has seen the words of a place has seen its whole future.
 pub fn equal_places_have_equal_futures()
     ensures one { (script : Script) (p q : Place) → IsPlaceOf script p → IsPlaceOf script q → place_words p ≡ place_words q → AreOne p q }
     ensures futures { (script : Script) (p q : Place) (moments : List Moment) (last : Place)
@@ -56,10 +58,20 @@ pub fn equal_places_have_equal_futures()
         → (there : Place) × Leads (plan_for script) q moments there × AreOne last there }
 {}
 
-/// Which free frame is taken doesn't show in a schedule: two of the same events have the same outcomes, and lead to places that differ in the
-/// names of frames alone. So a list of events tells the place, up to these names.
+/// Which free frame is taken doesn't show in a schedule: two of the same events have the same outcomes, and lead to places that differ in
+/// the names of frames alone. So a list of events tells the place, up to these names.
 pub fn events_lead_to_one_place()
     ensures { (script : Script) (denials kills : ℕ) (first other : CoreState) (moments others : List Moment) (p q : Place)
         → IsSchedule script denials kills first moments p → IsSchedule script denials kills other others q
         → events_of moments ≡ events_of others → (outcomes_of moments ≡ outcomes_of others) × AreAlike p q }
+{}
+
+/// Nor does it show in what may be done: where two places differ in the names of frames alone, each turn of the one is a turn of the other,
+/// has the same outcome there, and leads to places that differ so again. The core that it leads to is whatever the machine's row allows.
+pub fn names_of_frames_change_no_turn()
+    ensures { (script : Script) (p q r : Place) (event : Event) (outcome other : Outcome) (core : CoreState)
+        → IsPlaceOf script p → IsPlaceOf script q → AreAlike p q → AnyTurn (plan_for script) p event outcome r
+        → Row q.core event other core
+        → AnyTurn (plan_for script) q event other (record r { core = core }) × (other ≡ outcome)
+        × AreAlike r (record r { core = core }) }
 {}

@@ -1,6 +1,8 @@
 //! The laws are there to be cited.
 use crate::{
-    a_schedule_is_a_run, a_shortest_schedule_is_a_run, an_explored_run_is_a_schedule, equal_places_have_equal_futures, events_lead_to_one_place, what_no_schedule_meets_no_run_meets,
+    a_schedule_is_a_run, a_shortest_schedule_is_a_run, an_explored_run_is_a_schedule,
+    equal_places_have_equal_futures, events_lead_to_one_place, names_of_frames_change_no_turn,
+    what_no_schedule_meets_explored_runs_miss,
 };
 use std::test::Fail;
 
@@ -11,6 +13,7 @@ fn laws_are_cited() -> Result<(), Fail> {
     an_explored_run_is_a_schedule();
     equal_places_have_equal_futures();
     events_lead_to_one_place();
-    what_no_schedule_meets_no_run_meets();
+    names_of_frames_change_no_turn();
+    what_no_schedule_meets_explored_runs_miss();
     Ok(())
 }

@@ -3,7 +3,7 @@ use Rattle.hp_explore.specs.declared.line.Finish.{Finish}
 use Rattle.hp_every.specs.Scheduled.{IsScheduled}
 use Rattle.hp_every.proofs.Explored.{scheduled}
 use Rattle.hp_every.proofs.Meets.{missed}
-use Rattle.hp_every.proofs.laws.what_no_schedule_meets_no_run_meets.Goals as goal
+use Rattle.hp_every.proofs.laws.what_no_schedule_meets_explored_runs_miss.Goals as goal
 
 pub returns : goal.returns
 returns c =
