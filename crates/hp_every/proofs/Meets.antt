@@ -1,5 +1,5 @@
 -- A run and a schedule that tell the same meet the same conditions.
-use Rattle.std.proofs.Common.{◌≡◌, ℕ, ◌+◌, refl, ap, sym, ◌∙◌, subst, inl, inr, List, [], ◌∷◌}
+use Rattle.std.proofs.Common.{◌≡◌, ℕ, suc, ◌+◌, ◌<◌, refl, ap, sym, ◌∙◌, subst, inl, inr, arith, List, [], ◌∷◌, length}
 use Rattle.std.specs.Prelude.{◌&&◌, Some, if◌then◌else◌}
 use Rattle.hp_base.specs.declared.event.Event.{Event}
 use Rattle.hp_base.specs.declared.event.Event.TheVariants.{Begin, Step, Kill, Resize}
@@ -14,7 +14,8 @@ use Rattle.hp_explore.specs.declared.line.Finish.TheVariants.{Finished}
 use Rattle.hp_hunt.specs.Conditions.{EndsWith, IsMetAt, IsStepOf, Meets, SomeRunMisses, calls_begun, count_of, is_begin, is_begun}
 use Rattle.hp_hunt.specs.declared.condition.Condition.{Condition}
 use Rattle.hp_hunt.specs.declared.condition.Condition.TheVariants as condition
-use Rattle.hp_every.specs.Schedules.{Ends, IsLookedAt, NoScheduleMeets, Place, plan_for}
+use Rattle.hp_every.specs.Schedules.{Ends, IsLookedAt, IsShortest, NoScheduleMeets, Place, ScheduleMeets, plan_for}
+use Rattle.hp_every.proofs.Runs.{event_count}
 use Rattle.hp_every.specs.Scheduled.{IsScheduled, asked, told}
 
 -- what one moment tells
@@ -115,15 +116,15 @@ looked_at plan p ends (condition.Blocked t) = tt
 looked_at plan p ends (condition.Meet t phase u other) = tt
 looked_at plan p ends (condition.Final count number) = ends
 
--- what no schedule meets a finished run misses
-pub missed : (script : Script) (denials kills : ℕ) (conditions : List Condition) (events : List Event)
-    → NoScheduleMeets script denials kills conditions → IsScheduled script denials kills events Finished
-    → SomeRunMisses script.config events conditions
-missed script denials kills conditions events none scheduled = record {
+-- what its schedule doesn't meet a finished run misses
+missed_by : (script : Script) (denials kills : ℕ) (conditions : List Condition) (events : List Event)
+    → (scheduled : IsScheduled script denials kills events Finished)
+    → (ScheduleMeets script denials kills conditions scheduled.moments → ⊥) → SomeRunMisses script.config events conditions
+missed_by script denials kills conditions events scheduled none = record {
   first = scheduled.first;
   moments = scheduled.made;
   run = scheduled.run;
-  misses = λ meets. none scheduled.moments record {
+  misses = λ meets. none record {
     first = scheduled.first;
     last = scheduled.last;
     schedule = scheduled.schedule;
@@ -131,3 +132,28 @@ missed script denials kills conditions events none scheduled = record {
     meets = λ k d within. meets_same scheduled.first scheduled.made scheduled.moments _ (sym scheduled.same) (meets k d within);
   };
 }
+
+-- so what no schedule meets
+pub missed : (script : Script) (denials kills : ℕ) (conditions : List Condition) (events : List Event)
+    → NoScheduleMeets script denials kills conditions → IsScheduled script denials kills events Finished
+    → SomeRunMisses script.config events conditions
+missed script denials kills conditions events none scheduled =
+    missed_by script denials kills conditions events scheduled (none scheduled.moments)
+
+-- lists that tell the same are equally long
+told_long : (ms : List Moment) → length (told ms) ≡ length ms
+told_long [] = refl
+told_long (m ∷ ms) = ap suc (told_long ms)
+
+-- and a run of fewer events than a shortest schedule misses, too
+pub missed_before : (script : Script) (denials kills : ℕ) (conditions : List Condition) (events others : List Event)
+    → IsShortest script denials kills conditions events → IsScheduled script denials kills others Finished
+    → length others < length events → SomeRunMisses script.config others conditions
+missed_before script denials kills conditions events others h scheduled fewer =
+    let here : length events ≡ length h.moments = ap (λ (es : List Event). length es) (sym h.made) ∙ event_count h.moments in
+    let there : length others ≡ length scheduled.made =
+    ap (λ (es : List Event). length es) (sym scheduled.run.made) ∙ event_count scheduled.made in
+    let long : length scheduled.moments ≡ length scheduled.made =
+    sym (told_long scheduled.moments) ∙ (ap (λ (xs : List Told). length xs) scheduled.same ∙ told_long scheduled.made) in
+    missed_by script denials kills conditions others scheduled
+    (λ meets. let least = h.shortest scheduled.moments meets in absurd (omega (arith, here, there, long, least, fewer)))

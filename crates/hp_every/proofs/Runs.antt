@@ -29,7 +29,7 @@ run_of script denials kills first moments last schedule = record {
 }
 
 -- as many events as moments
-event_count : (moments : List Moment) → length (events_of moments) ≡ length moments
+pub event_count : (moments : List Moment) → length (events_of moments) ≡ length moments
 event_count [] = refl
 event_count (m ∷ before) =
     length-append (events_of before) (m.event ∷ []) ∙ (ap (λ (n : ℕ). n + 1) (event_count before) ∙ omega arith)

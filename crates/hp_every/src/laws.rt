@@ -1,5 +1,5 @@
 //! Laws of all schedules, each said by the contract of a function that does nothing.
-ghost use Rattle.std.specs.Prelude.{◌≡◌, ◌≤◌, ℕ, List, length};
+ghost use Rattle.std.specs.Prelude.{◌≡◌, ◌≤◌, ◌<◌, ℕ, List, length};
 ghost use Rattle.hp_base.specs.declared.event.Event.{Event};
 ghost use Rattle.hp_machine.specs.declared.outcome.Outcome.{Outcome};
 ghost use Rattle.hp_core.specs.State.{CoreState};
@@ -40,13 +40,19 @@ pub fn what_no_schedule_meets_explored_runs_miss()
         → SomeRunMisses script.config events conditions }
 {}
 
-/// A shortest schedule that meets the conditions is a run of the machine that meets them, and all shortest have as many events.
+/// A shortest schedule that meets the conditions is a run of the machine that meets them, and all shortest have as many events. Each run
+/// that an explorer makes and finishes with fewer events, and with at most so many denials and kills, misses a condition.
 pub fn a_shortest_schedule_is_a_run()
     ensures meets { (script : Script) (denials kills : ℕ) (conditions : List Condition) (events : List Event)
         → IsShortest script denials kills conditions events → SomeRunMeets script.config events conditions }
     ensures length { (script : Script) (denials kills : ℕ) (conditions : List Condition) (events others : List Event)
         → IsShortest script denials kills conditions events → IsShortest script denials kills conditions others
         → length events ≡ length others }
+    ensures fewer { (script : Script) (seed deny kill run : ℕ) (events others : List Event) (line : RunLine) (denials kills : ℕ)
+        (conditions : List Condition)
+        → IsShortest script denials kills conditions events → IsExplored script seed deny kill run others line
+        → how_many is_denied others ≤ denials → how_many is_kill others ≤ kills → line.finish ≡ Finished
+        → length others < length events → SomeRunMisses script.config others conditions }
 {}
 
 /// Two places with equal words are one place, by whatever schedules they are reached: what follows from the one follows from the other, by
