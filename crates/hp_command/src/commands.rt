@@ -1,9 +1,7 @@
 //! The commands that there are, as a table, and the command line that clap makes of it.
 use crate::choices::*;
 use crate::options::{Choice, with_choices};
-use crate::texts::{
-    FINDS, LOOSE, MINIMIZES, PICTURES, RACES, SCRIPTS, STEPS, TRACES, WORKLOADS,
-};
+use crate::texts::{FINDS, LOOSE, MINIMIZES, PICTURES, RACES, SCRIPTS, STEPS, TRACES, WORKLOADS};
 use clap::error::ErrorKind;
 use clap::{Arg, Command, Error};
 use std::alloc::{AllocError, Global};

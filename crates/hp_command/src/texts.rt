@@ -45,7 +45,8 @@ task, nothing is printed, standard error names the line, and the status is 1.
   hugepool format notes.trace | hugepool explain";
 
 /// Of auditing a state.
-pub(crate) const PICTURES: &str = "A state is lines of text. The first has the counts, the last is the word end:
+pub(crate) const PICTURES: &str =
+    "A state is lines of text. The first has the counts, the last is the word end:
   picture RESV OWED USED USED_OWED [QUOTA]  the reserve count, what others owe to it, the used count, what others owe to
                                          that, and the most that may be used
   free FRAME, retired FRAME, hand FRAME  a frame that is free, taken out of the pool, or in use and in no file

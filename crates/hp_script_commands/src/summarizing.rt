@@ -9,8 +9,8 @@ ghost use Rattle.hp_script_commands.specs.Summing.{SumsUp, SumsUpPartly};
 
 use crate::progress::{ProgressLine, Report};
 use crate::scheduling::tell_ignored;
-use hp_summary::{Survey, summarize, write_summary};
 use hp_program::{flush_plain, flushed_answer};
+use hp_summary::{Survey, summarize, write_summary};
 use hp_text::{ReplayFault, Sink, Source, Watched, read_any_script};
 use std::alloc::Global;
 use std::io::Write;
