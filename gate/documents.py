@@ -47,7 +47,7 @@ PAGES = ("README.md", "docs/*.md", "examples/README.md")
 WHOLE = ("docs/TRACES.md", "docs/EXPLORING.md")
 # programs with the first words behind them with which they print the same each time, and what may stand beside them
 PRINTING = {
-    "./hugepool": {"explain", "replay", "check", "explore", "schedule", "find", "minimize", "draw", "work"},
+    "./hugepool": {"explain", "replay", "check", "explore", "schedule", "find", "minimize", "draw", "work", "audit"},
     "conformance/live/check.py": {"--account"},
 }
 BESIDE = {"sed", "head", "tail", "grep", "sort", "uniq", "printf", "echo", "yes", "for", "done", "}", ""}
