@@ -26,3 +26,4 @@ pub mod ScriptTakings
 pub mod ScriptsOnce
 pub mod PlainScripts
 pub mod Counting
+pub mod TextLines

@@ -5,6 +5,10 @@ use Rattle.std.proofs.KnownBytes.{Appends-nil, Appends-trans}
 use Rattle.std.proofs.lemmas.List.{take-append-drop}
 use Rattle.hp_text.specs.Writing.{Wrote}
 
+-- a part more of a text that is appended
+pub more_text : (old front part now new : List ℕ) → now ≡ old ++ front → new ≡ now ++ part → new ≡ old ++ (front ++ part)
+more_text old front part now new is e = e ∙ ap (λ (x : List ℕ). x ++ part) is ∙ append_assoc old front part
+
 -- a text, and then a front of another
 pub Wrote-behind : (a b c : Option (List ℕ)) (xs ys : List ℕ) → Appends a b xs → Wrote b c ys → Wrote a c (xs ++ ys)
 Wrote-behind a b c xs ys all w =

@@ -12,3 +12,4 @@ pub mod Checking
 pub mod Columns
 pub mod CountedCalls
 pub mod Needs
+pub mod TextLines

@@ -18,6 +18,7 @@ mod script;
 mod script_draft;
 mod script_lines;
 mod streams;
+mod text_lines;
 mod trace;
 mod waiting_script;
 mod writing;
@@ -30,9 +31,10 @@ pub use laws::{
     a_plain_script_is_a_trace, bytes_have_one_reading, pieces_do_not_show, what_is_held_is_spelled,
 };
 pub use needs::{Need, needs_of, task_needs};
-pub use reading::{after_word, event_at, header_at, last_at, short_at};
+pub use reading::{after_word, event_at, field_at, header_at, last_at, short_at};
 pub use script::{Script, Wait, read_script};
 pub use streams::{PIECE, Sink, Source, Watched};
+pub use text_lines::{read_all, split_line};
 pub use trace::{MOST_EVENTS, Trace, read_trace, write_trace};
 pub use waiting_script::read_any_script;
 pub use writing::write_text;

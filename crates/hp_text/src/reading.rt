@@ -66,7 +66,7 @@ pub fn short_at(bytes: &[u8]) -> Option<(u32, &[u8])>
 
 /// A space, and a number of 32 bits.
 #[tactic(auto, unfolding(crate::specs::Reading::field_at))]
-fn field_at(bytes: &[u8]) -> Option<(u32, &[u8])>
+pub fn field_at(bytes: &[u8]) -> Option<(u32, &[u8])>
     ensures { option_map (λ found. (found.0, found.1.now)) result ≡ field_at limit bytes.now }
 {
     short_at(after_word(b" ", bytes)?)
