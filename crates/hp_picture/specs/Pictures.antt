@@ -3,7 +3,7 @@ use Rattle.std.specs.Prelude.{◌≡◌, ℕ, ◌+◌, Bool, true, false, List, 
 use Rattle.std.specs.Io.KnownBytes.{Consumes, IsAtEnd}
 use Rattle.hp_text.specs.declared.fault.ReplayFault.TheVariants.{Memory, Read}
 use Rattle.hp_text.specs.Streams.{source_at}
-use Rattle.hp_picture.specs.Lines.{lines_of}
+use Rattle.hp_text.specs.TextLines.{lines_of}
 use Rattle.hp_picture.specs.Reading.{line_at}
 use Rattle.hp_picture.specs.declared.fault.PictureFault.{PictureFault}
 use Rattle.hp_picture.specs.declared.fault.PictureFault.TheVariants as faults

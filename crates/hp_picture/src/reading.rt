@@ -1,12 +1,12 @@
 //! Reads a line of a picture, a word or a number at a time. Each line has one spelling.
 ghost use Rattle.std.specs.Prelude.{◌≡◌};
 ghost use Rattle.std.specs.Option.{option_map};
-ghost use Rattle.hp_text.specs.Reading.{field_at, last_at, limit};
+ghost use Rattle.hp_text.specs.Reading.{last_at};
 ghost use Rattle.hp_picture.specs.Reading.{count_at, count_field_at, counts_at, quota_at, locked_at, lock_at, size_at, three_at, four_at, frame_line_at, line_at};
 
 use crate::line::PictureLine;
 use crate::picture::Counts;
-use hp_text::{after_word, last_at, short_at};
+use hp_text::{after_word, field_at, last_at, short_at};
 
 /// A number of 32 bits, which may stand below zero.
 #[tactic(auto, unfolding(crate::specs::Reading::count_at))]
@@ -31,14 +31,6 @@ fn count_field_at(bytes: &[u8]) -> Option<(i64, &[u8])>
     ensures { option_map (λ found. (found.0, found.1.now)) result ≡ count_field_at bytes.now }
 {
     count_at(after_word(b" ", bytes)?)
-}
-
-/// A space, and a number of 32 bits.
-#[tactic(auto, unfolding(hp_text::specs::Reading::field_at))]
-fn field_at(bytes: &[u8]) -> Option<(u32, &[u8])>
-    ensures { option_map (λ found. (found.0, found.1.now)) result ≡ field_at limit bytes.now }
-{
-    short_at(after_word(b" ", bytes)?)
 }
 
 /// A quota, if there is one, as the last of a line.

@@ -1,5 +1,5 @@
 use Rattle.std.proofs.Common.{◌≡◌, ◌+◌, ◌≤◌, ℕ, length}
-use Rattle.hp_picture.specs.Lines.{lines_of}
+use Rattle.hp_text.specs.TextLines.{lines_of}
 use Rattle.hp_picture.specs.Pictures.{taken}
 use Rattle.hp_picture.proofs.text.take_text.Given as goal
 
