@@ -14,7 +14,8 @@ use Rattle.hp_text.proofs.Lines.{event_again, header_again}
 use Rattle.hp_text.proofs.OneReading.{first_is}
 use Rattle.hp_text.proofs.Widths.{event_width, sizes_width}
 use Rattle.hp_format.specs.Asked.{IsAsked, IsAskedOf}
-use Rattle.hp_format.specs.Lines.{lines_of, unmarked}
+use Rattle.hp_format.specs.Lines.{unmarked}
+use Rattle.hp_text.specs.TextLines.{lines_of}
 use Rattle.hp_format.specs.Loose.{AreGiven, Gives, HasNoWords, IsHeader, IsHeaderOf, IsLoose, no_line, first_line}
 use Rattle.hp_format.specs.declared.asked.Asked.{Asked}
 use Rattle.hp_format.specs.declared.asked.Asked.TheVariants.{Times}
@@ -79,18 +80,21 @@ strict_given (e ∷ events) each (first_line line asked front is gives rest) sam
     let front_is : front ≡ e ∷ [] = subst (λ (asked : Asked). Gives asked front) once gives in
     rw (front_is, strict_given events fits.1 rest cc) refl
 
+-- the lines of a strict trace
+pub strict_text_lines : (text : List ℕ) (s : Sizes) (events : List Event) → Spells text s events
+    → lines_of (unmarked text) ≡ sizes_text s ∷ map event_text events
+strict_text_lines text s events spells =
+    let unmarked_is : unmarked (trace_text s events) ≡ trace_text s events = refl in
+    ap (λ (text : List ℕ). lines_of (unmarked text)) spells.text ∙ ap lines_of unmarked_is
+    ∙ ap lines_of (append_assoc (sizes_text s) (10 ∷ []) (events_text events))
+    ∙ ended (sizes_text s) (events_text events) (sizes_width s spells.trace.within).no_end
+    ∙ ap (λ (lines : List (List ℕ)). sizes_text s ∷ lines) (strict_lines events spells.trace.each)
+
 -- the text of a strict trace asks for that trace alone
 pub strict_stays : (text : List ℕ) (s : Sizes) (events : List Event) (z : Sizes) (more : List Event) → Spells text s events
     → IsLoose text z more → (z ≡ s) × (more ≡ events)
 strict_stays text s events z more spells loose =
-    let each = spells.trace.each in
-    let unmarked_is : unmarked (trace_text s events) ≡ trace_text s events = refl in
-    let lines_are : lines_of (unmarked text) ≡ sizes_text s ∷ map event_text events =
-    ap (λ (text : List ℕ). lines_of (unmarked text)) spells.text ∙ ap lines_of unmarked_is
-    ∙ ap lines_of (append_assoc (sizes_text s) (10 ∷ []) (events_text events))
-    ∙ ended (sizes_text s) (events_text events) (sizes_width s spells.trace.within).no_end
-    ∙ ap (λ (lines : List (List ℕ)). sizes_text s ∷ lines) (strict_lines events each) in
-    by loose.front loose.header loose.lines (sym loose.parts ∙ lines_are) loose.blank loose.sizes loose.given
+    by loose.front loose.header loose.lines (sym loose.parts ∙ strict_text_lines text s events spells) loose.blank loose.sizes loose.given
   where
     read : (line : List ℕ) → line ≡ sizes_text s → header_at line ≡ Some s
     read line same = ap header_at same ∙ header_again s spells.trace.within

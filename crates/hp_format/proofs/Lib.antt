@@ -1,4 +1,7 @@
+mod Faults
+mod Following
 mod Given
 mod Led
-mod Parts
+mod LedLines
+mod Readings
 mod Tidied

@@ -9,6 +9,7 @@ use Rattle.hp_format.specs.declared.asked.Asked.{Asked}
 use Rattle.hp_format.specs.declared.asked.Asked.TheVariants.{Nothing, Times, Until}
 use Rattle.hp_format.specs.declared.asked.Goal.{Goal}
 use Rattle.hp_format.specs.declared.asked.Goal.TheVariants.{Stands, Ended}
+use Rattle.hp_text.specs.Fits.{EventFits, IsShort}
 use Rattle.hp_text.specs.Reading.{event_at}
 
 -- the word of what steps are made until: a phase, as a replay prints it behind `moved`, or the end of the call
@@ -51,3 +52,17 @@ IsAskedOf None line asked = AreAskedOf (event_at (tidy line)) (tidy line) asked
 
 abbrev pub IsAsked : List ℕ → Asked → Type 0
 IsAsked line asked = IsAskedOf (event_at line) line asked
+
+-- the numbers are in their types' ranges, as they are in each value of a program
+abbrev pub AskedFits : Asked → Type 0
+AskedFits Nothing = Unit {0}
+AskedFits (Times event times) = EventFits event
+AskedFits (Until task goal) = IsShort task
+
+-- no such thing is asked for by these words, which are no strict event
+abbrev pub HaveNoReading : List ℕ → Type 0
+HaveNoReading words = (asked : Asked) → AskedFits asked → AreAsked words asked → ⊥
+
+-- nor by this line, be it an event or not
+abbrev pub HasNoReading : List ℕ → Type 0
+HasNoReading line = (asked : Asked) → AskedFits asked → IsAsked line asked → ⊥

@@ -1,12 +1,14 @@
 //! A trace while it is written, and a pool to which it happens.
-ghost use Rattle.std.specs.Prelude.{◌≡◌, ◌≤◌, ◌<◌, ◌-◌, ◌++◌, ℕ, suc, true, false, List, IfErr, IfOk, IsTrue, OnOk, OnErr, ◌↔◌, length, replicate, take, [], ◌∷◌};
+ghost use Rattle.std.specs.Prelude.{◌≡◌, ◌≤◌, ◌<◌, ◌-◌, ◌++◌, ◌⊎◌, ℕ, suc, true, false, List, IfErr, IfOk, IsTrue, OnOk, OnErr, ◌↔◌, None, Some, length, replicate, take, [], ◌∷◌};
 ghost use Rattle.hp_base.specs.Text.{sizes};
 ghost use Rattle.hp_base.specs.declared.config.Config.{Config};
 ghost use Rattle.hp_base.specs.declared.event.Event.{Event};
 ghost use Rattle.hp_base.specs.declared.event.Event.TheVariants.{Step};
-ghost use Rattle.hp_core.specs.Runs.{Row};
+ghost use Rattle.hp_core.specs.Runs.{IsOpening, Row};
 ghost use Rattle.hp_format.specs.Drafts.{IsLed, Reaches, WouldCome};
-ghost use Rattle.hp_format.specs.Loose.{Gives, IsOfText};
+ghost use Rattle.hp_format.specs.Following.{IsAny, IsUnaddedFor, Leads, Repeats, StepsUntil, stop_of};
+ghost use Rattle.hp_format.specs.Loose.{Gives, IsLineFault, IsOfText};
+ghost use Rattle.hp_format.specs.declared.draft.Unadded.TheVariants as unadded;
 
 use crate::asked::{Asked, Goal};
 use crate::fault::{LooseFault, Reason};
@@ -52,12 +54,16 @@ pub enum Unadded {
 }
 
 impl From<AllocError> for Unadded {
+    ghost from_gives = { λ _ why. why ≡ unadded.Memory };
+
     fn from(_error: AllocError) -> Unadded {
         Unadded::Memory
     }
 }
 
 impl From<Reason> for Unadded {
+    ghost from_gives = { λ why given. given ≡ unadded.Reason why };
+
     fn from(why: Reason) -> Unadded {
         Unadded::Reason(why)
     }
@@ -66,7 +72,8 @@ impl From<Reason> for Unadded {
 impl Unadded {
     /// The fault of the line of this number.
     pub(crate) fn at(self, line: u64) -> LooseFault
-        ensures { IsOfText result }
+        ensures text { IsOfText result }
+        ensures line { IsLineFault line self result }
     {
         match self {
             Unadded::Memory => LooseFault::from(AllocError),
@@ -80,6 +87,8 @@ impl Unadded {
 pub fn reaches(goal: Goal, outcome: &Outcome) -> Result<bool, Reason>
     ensures reached { IfOk result (λ done. IsTrue done ↔ Reaches goal outcome.now) }
     ensures err { IfErr result (λ why. ¬ Reaches goal outcome.now) }
+    ensures why { IfErr result (λ why. stop_of outcome.now ≡ Some why) }
+    ensures on { IfOk result (λ done. done ≡ false → stop_of outcome.now ≡ None) }
 {
     match (goal, outcome) {
         (Goal::Stands(phase), Outcome::Moved(at)) => Ok(*at == phase),
@@ -111,6 +120,7 @@ impl Draft {
     pub fn new(alloc: Global, config: Config) -> Result<Draft, AllocError>
         ensures sizes { IfOk result (λ draft. draft.sizes ≡ sizes config) }
         ensures events { IfOk result (λ draft. draft.events ≡ []) }
+        ensures opening { IfOk result (λ draft. IsOpening config draft.core) }
     {
         Ok(Draft {
             config,
@@ -163,6 +173,8 @@ impl Draft {
         ensures events { OnOk result (self.new.events ≡ self.old.events ++ event.now ∷ []) }
         ensures row { IfOk result (λ outcome. Row self.old.core event.now outcome self.new.core) }
         ensures err { OnErr result (self.new ≡ self.old) }
+        ensures why { IfErr result (λ why. (why ≡ Unadded.Memory)
+            ⊎ (why ≡ Unadded.Reason Reason.TooMany) × (1000000 ≤ length self.old.events)) }
     {
         // The checker of borrows asks for a mention of the types that an event and an outcome may hold.
         let _none: (Option<Answer>, Option<Op>, Option<Reason>) = (None, None, None);
@@ -177,6 +189,8 @@ impl Draft {
     fn add_times(&mut self, event: &Event, times: u32) -> Result<(), Unadded>
         ensures sizes { self.new.sizes ≡ self.old.sizes }
         ensures events { OnOk result (self.new.events ≡ self.old.events ++ replicate times event.now) }
+        ensures leads { OnOk result (Repeats IsAny self.old.core event.now times self.new.core) }
+        ensures why { IfErr result (IsUnaddedFor self.old.core self.old.events (Asked.Times event.now times)) }
     {
         // The checker of borrows asks for a mention of the types that an event and an outcome may hold.
         let _none: (Option<Answer>, Option<Op>, Option<Reason>) = (None, None, None);
@@ -191,6 +205,9 @@ impl Draft {
         ensures sizes { self.new.sizes ≡ self.old.sizes }
         ensures events { OnOk result ((more : ℕ)
             × (self.new.events ≡ self.old.events ++ replicate (suc more) (Step task true))) }
+        ensures leads { OnOk result ((before : ℕ) × (self.new.events ≡ self.old.events ++ replicate (suc before) (Step task true))
+            × StepsUntil self.old.core task goal before self.new.core) }
+        ensures why { IfErr result (IsUnaddedFor self.old.core self.old.events (Asked.Until task goal)) }
     {
         // The checker of borrows asks for a mention of the types that an event and an outcome may hold.
         let _none: (Option<Answer>, Option<Op>, Option<Reason>) = (None, None, None);
@@ -209,6 +226,9 @@ impl Draft {
         ensures sizes { self.new.sizes ≡ self.old.sizes }
         ensures events { OnOk result ((more : List Event) × Gives asked.now more
             × (self.new.events ≡ self.old.events ++ more)) }
+        ensures leads { OnOk result ((more : List Event) × Leads self.old.core asked.now more self.new.core
+            × (self.new.events ≡ self.old.events ++ more)) }
+        ensures why { IfErr result (IsUnaddedFor self.old.core self.old.events asked.now) }
     {
         match asked {
             Asked::Nothing => Ok(()),

@@ -18,6 +18,6 @@ pub use asked::{Asked, Goal, asked_of};
 pub use draft::{Draft, Unadded, reaches};
 pub use fault::{LooseFault, Reason};
 pub use hp_phases::phase_named;
-pub use laws::a_strict_trace_stays;
+pub use laws::{a_strict_trace_has_no_fault, a_strict_trace_stays};
 pub use loosening::read_loose;
 pub use tidying::tidy;

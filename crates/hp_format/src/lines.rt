@@ -1,8 +1,9 @@
 //! The lines of a text that people wrote.
 ghost use Rattle.std.specs.Prelude.{◌≡◌, ◌<◌, ◌∷◌, [], None, IfSome, length};
-ghost use Rattle.hp_format.specs.Lines.{lines_of, unmarked};
+ghost use Rattle.hp_format.specs.Lines.{AreFew, lines_in_all, unmarked};
+ghost use Rattle.hp_text.specs.TextLines.{lines_of};
 
-use memchr::memchr;
+use hp_text::split_line;
 
 /// What is left of a text, and how many lines came before.
 #[derive(Drop)]
@@ -22,22 +23,12 @@ fn unmarked(text: &[u8]) -> &[u8]
     }
 }
 
-/// The first line of a text, without its end, and what stands behind it.
-fn split_line(text: &[u8]) -> (&[u8], &[u8])
-    requires { 0 < length text.now }
-    ensures lines { lines_of text.now ≡ result.0.now ∷ lines_of result.1.now }
-    ensures shorter { length result.1.now < length text.now }
-{
-    match memchr(b'\n', text) {
-        Some(end) => (&text[..end], &text[end + 1..]),
-        None => (text, &[]),
-    }
-}
-
 impl<'a> Lines<'a> {
     /// The lines of a text.
     pub(crate) fn new(text: &'a [u8]) -> Lines<'a>
-        ensures { result.rest.now ≡ unmarked text.now }
+        ensures rest { result.rest.now ≡ unmarked text.now }
+        ensures number { result.number ≡ 0 }
+        ensures few { AreFew result.number result.rest.now }
     {
         Lines {
             rest: unmarked(text),
@@ -54,16 +45,19 @@ impl<'a> Lines<'a> {
 
     /// The next line, without its end.
     pub(crate) fn next_line(&mut self) -> Option<&'a [u8]>
+        requires { AreFew self.old.number self.old.rest.now }
         ensures line { IfSome result (λ line. lines_of self.old.rest.now ≡ line.now ∷ lines_of self.new.rest.now) }
         ensures shorter { IfSome result (λ line. length self.new.rest.now < length self.old.rest.now) }
         ensures none { result ≡ None → lines_of self.old.rest.now ≡ [] }
+        ensures left { result ≡ None → lines_of self.new.rest.now ≡ [] }
+        ensures counted { lines_in_all self.new.number self.new.rest.now ≡ lines_in_all self.old.number self.old.rest.now }
     {
         if self.rest.is_empty() {
             return None;
         }
         let (line, rest) = split_line(self.rest);
         self.rest = rest;
-        self.number = self.number.saturating_add(1);
+        self.number += 1;
         Some(line)
     }
 }

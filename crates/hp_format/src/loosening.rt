@@ -3,8 +3,11 @@ ghost use Rattle.std.specs.Prelude.{◌≡◌, ◌≤◌, ◌++◌, ◌∷◌, �
 ghost use Rattle.std.specs.Io.KnownBytes.{Consumes, IsAtEnd};
 ghost use Rattle.hp_base.specs.Text.{sizes};
 ghost use Rattle.hp_base.specs.declared.event.Event.{Event};
-ghost use Rattle.hp_format.specs.Lines.{lines_of, unmarked};
+ghost use Rattle.hp_core.specs.State.{CoreState};
+ghost use Rattle.hp_format.specs.Lines.{AreFew, lines_in_all, unmarked};
+ghost use Rattle.hp_text.specs.TextLines.{lines_of};
 ghost use Rattle.hp_format.specs.Loose.{AreGiven, HasNoWords, IsHeader, IsLoose, IsLooseFault, IsOfText, ReadsLoose, TellsLoose};
+ghost use Rattle.hp_format.specs.Loose.{HasWrongLine, IsFaultBy, IsFaultRead, IsNoHeader, IsRun, IsWrong, IsWrongAt, LacksHeader, LinesLead, ReadsRun};
 ghost use Rattle.hp_text.specs.Streams.{TellsReads};
 
 use crate::asked::asked_of;
@@ -13,13 +16,14 @@ use crate::fault::{LooseFault, Reason};
 use crate::lines::Lines;
 use crate::tidying::tidy;
 use hp_base::{Answer, Config, Event, Op};
-use hp_text::{PIECE, ReplayFault, Source, Trace, header_at};
+use hp_text::{Source, Trace, header_at, read_all};
 use std::alloc::{AllocError, Global};
 
 /// The pool's header that a line is, if it is one; a line without words is none.
 fn header_of(line: &[u8], number: u64, words: &mut Vec<u8>) -> Result<Option<Config>, LooseFault>
     ensures found { IfOk result (λ found. MatchOption found (HasNoWords line.now) (λ config. IsHeader line.now (sizes config))) }
     ensures err { IfErr result IsOfText }
+    ensures bad { IfErr result (IsFaultBy (λ n why. (n ≡ number) × (why ≡ Reason.Header) × IsNoHeader line.now)) }
 {
     if let Some(config) = header_at(line) {
         return Ok(Some(config));
@@ -36,9 +40,12 @@ fn header_of(line: &[u8], number: u64, words: &mut Vec<u8>) -> Result<Option<Con
 
 /// Goes over the lines up to the header.
 fn find_header(lines: &mut Lines, words: &mut Vec<u8>) -> Result<Config, LooseFault>
+    requires { AreFew lines.old.number lines.old.rest.now }
     ensures found { IfOk result (λ config. (front : List (List ℕ)) × (header : List ℕ) × All HasNoWords front
         × IsHeader header (sizes config) × (lines_of lines.old.rest.now ≡ front ++ header ∷ lines_of lines.new.rest.now)) }
+    ensures counted { lines_in_all lines.new.number lines.new.rest.now ≡ lines_in_all lines.old.number lines.old.rest.now }
     ensures err { IfErr result IsOfText }
+    ensures bad { IfErr result (IsFaultBy (LacksHeader lines.old.number (lines_of lines.old.rest.now))) }
 {
     while let Some(line) = lines.next_line() {
         match header_of(line, lines.number(), words)? {
@@ -46,7 +53,7 @@ fn find_header(lines: &mut Lines, words: &mut Vec<u8>) -> Result<Config, LooseFa
             None => {}
         }
     }
-    Err(LooseFault::Line(lines.number().saturating_add(1), Reason::Header))
+    Err(LooseFault::Line(lines.number() + 1, Reason::Header))
 }
 
 /// Adds what a line asks for.
@@ -59,7 +66,10 @@ fn add_line(
     ensures sizes { draft.new.sizes ≡ draft.old.sizes }
     ensures events { OnOk result ((lines : List (List ℕ)) → AreGiven lines draft.old.events
         → AreGiven (lines ++ line.now ∷ []) draft.new.events) }
+    ensures leads { OnOk result ((first : CoreState) (lines : List (List ℕ)) → LinesLead first lines draft.old.events draft.old.core
+        → LinesLead first (lines ++ line.now ∷ []) draft.new.events draft.new.core) }
     ensures err { IfErr result IsOfText }
+    ensures bad { IfErr result (IsFaultBy (λ n why. (n ≡ number) × IsWrong draft.old.core draft.old.events line.now why)) }
 {
     // The checker of borrows asks for a mention of the types that an event and an outcome may hold.
     let _none: (Option<Answer>, Option<Event>, Option<Op>, Option<Reason>) = (
@@ -76,10 +86,13 @@ fn add_line(
 
 /// Adds what the lines ask for.
 fn add_lines(draft: &mut Draft, lines: &mut Lines, words: &mut Vec<u8>) -> Result<(), LooseFault>
-    requires { draft.old.events ≡ [] }
+    requires none { draft.old.events ≡ [] }
+    requires few { AreFew lines.old.number lines.old.rest.now }
     ensures sizes { draft.new.sizes ≡ draft.old.sizes }
     ensures events { OnOk result (AreGiven (lines_of lines.old.rest.now) draft.new.events) }
+    ensures leads { OnOk result (LinesLead draft.old.core (lines_of lines.old.rest.now) draft.new.events draft.new.core) }
     ensures err { IfErr result IsOfText }
+    ensures bad { IfErr result (IsFaultBy (HasWrongLine draft.old.core lines.old.number (lines_of lines.old.rest.now))) }
 {
     // The checker of borrows asks for a mention of the types that an event and an outcome may hold.
     let _none: (Option<Answer>, Option<Event>, Option<Op>, Option<Reason>) = (
@@ -95,7 +108,9 @@ fn add_lines(draft: &mut Draft, lines: &mut Lines, words: &mut Vec<u8>) -> Resul
 fn loosen(alloc: Global, text: &[u8]) -> Result<Trace, LooseFault>
     ensures loose { IfOk result (λ trace. IsLoose text.now (sizes trace.config) trace.events.items) }
     ensures few { IfOk result (λ trace. length trace.events.items ≤ 1000000) }
+    ensures run { IfOk result (λ trace. IsRun text.now (sizes trace.config) trace.events.items) }
     ensures err { IfErr result IsOfText }
+    ensures bad { IfErr result (IsFaultBy (IsWrongAt text.now)) }
 {
     // The checker of borrows asks for a mention of the types that an event and an outcome may hold.
     let _none: (Option<Answer>, Option<Event>, Option<Op>, Option<Reason>) = (
@@ -109,31 +124,15 @@ fn loosen(alloc: Global, text: &[u8]) -> Result<Trace, LooseFault>
     Ok(draft.into_trace())
 }
 
-/// All that the reader gives.
-fn read_all<R: Source>(alloc: Global, reader: &mut R) -> Result<Vec<u8>, ReplayFault>
-    ensures reads { IfOk result (λ text. Consumes (R.remaining reader.old) (R.remaining reader.new) text.items) }
-    ensures all { OnOk result (IsAtEnd (R.remaining reader.new)) }
-    ensures reader { TellsReads result (R.failures reader.old) (R.failures reader.new) }
-    ensures fault { IfErr result (λ fault. (fault ≡ ReplayFault.Read) ⊎ (fault ≡ ReplayFault.Memory)) }
-{
-    let mut text = Vec::new(alloc);
-    let mut piece = [0; PIECE];
-    for _ in 0..u64::MAX {
-        let n = reader.read_piece(&mut piece)?;
-        if n == 0 {
-            return Ok(text);
-        }
-        text.extend_from_slice(&piece[..n])?;
-    }
-    Err(ReplayFault::Memory)
-}
-
 /// Reads a trace in the loose form, all of it. The lines are counted from 1, blank ones too.
 pub fn read_loose<R: Source>(alloc: Global, reader: &mut R) -> Result<Trace, LooseFault>
     ensures loose { IfOk result (λ trace. ReadsLoose (R.remaining reader.old) (R.remaining reader.new)
         (sizes trace.config) trace.events.items) }
     ensures few { IfOk result (λ trace. length trace.events.items ≤ 1000000) }
+    ensures run { IfOk result (λ trace. ReadsRun (R.remaining reader.old) (R.remaining reader.new)
+        (sizes trace.config) trace.events.items) }
     ensures fault { IfErr result IsLooseFault }
+    ensures bad { IfErr result (IsFaultRead (R.remaining reader.old) (R.remaining reader.new)) }
     ensures reads { TellsLoose result (R.failures reader.old) (R.failures reader.new) }
 {
     let text = read_all(alloc, reader)?;
