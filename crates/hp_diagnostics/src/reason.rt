@@ -1,4 +1,5 @@
 //! What is wrong with a line.
+use crate::near::near;
 use hp_base::Config;
 use hp_text::MOST_EVENTS;
 use std::fmt;
@@ -10,6 +11,7 @@ pub(crate) const LONGEST_LINE: usize = 56;
 #[derive(Clone, Copy)]
 pub enum Reason<'a> {
     Nothing,
+    HeaderMissing,
     TooLong,
     Unended,
     CarriageReturn,
@@ -20,6 +22,8 @@ pub enum Reason<'a> {
     TooMany,
     NoHeader(&'a str),
     NoEvent(&'a str),
+    /// A call where an event must stand, which would begin it.
+    NoBeginOf(&'a str),
     NoCall(&'a str),
     /// So many words, where such a line has others: what it is, and how many it has.
     Words(usize, &'a str, &'a str),
@@ -29,6 +33,8 @@ pub enum Reason<'a> {
     Above(&'a str, u64),
     /// A size that no pool has: how many there are, of what, and the least and the most.
     Size(u64, &'a str, u64, u64),
+    /// Steps in none of the ways in which the loose form has them.
+    NoSteps,
     NoBegin,
     /// A header of a script that may wait, where a trace is read or a script without waits.
     Waits,
@@ -41,6 +47,7 @@ impl fmt::Display for Reason<'_> {
     fn fmt<W: fmt::Write>(&self, f: &mut fmt::Formatter<W>) -> fmt::Result {
         match *self {
             Reason::Nothing => f.write_str("the input is empty"),
+            Reason::HeaderMissing => f.write_str("the input ends before a header"),
             Reason::TooLong => write!(f, "the line is longer than {LONGEST_LINE} bytes"),
             Reason::Unended => f.write_str("the last line has no line feed"),
             Reason::CarriageReturn => f.write_str("the line ends with a carriage return"),
@@ -52,8 +59,17 @@ impl fmt::Display for Reason<'_> {
             ),
             Reason::TooMany => write!(f, "a trace has at most {MOST_EVENTS} events"),
             Reason::NoHeader(word) => write!(f, "a header begins with pool, not with {word}"),
-            Reason::NoEvent(word) => write!(f, "{word} is not an event"),
-            Reason::NoCall(word) => write!(f, "{word} is not a call"),
+            Reason::NoEvent(word) => {
+                write!(f, "{word} is not an event")?;
+                write_meant(f, near(word, EVENTS))
+            }
+            Reason::NoBeginOf(call) => {
+                write!(f, "{call} is not an event: did you mean begin TASK {call}?")
+            }
+            Reason::NoCall(word) => {
+                write!(f, "{word} is not a call")?;
+                write_meant(f, near(word, CALLS))
+            }
             Reason::Words(1, what, wanted) => write!(f, "the line has 1 word; {what} has {wanted}"),
             Reason::Words(count, what, wanted) => {
                 write!(f, "the line has {count} words; {what} has {wanted}")
@@ -67,6 +83,9 @@ impl fmt::Display for Reason<'_> {
                     "the header gives {number} {what}; a pool has {least} to {most}"
                 )
             }
+            Reason::NoSteps => f.write_str(
+                "steps are step TASK, step TASK *N with N from 1 to 1000000, step TASK until PHASE or until ended, and deny TASK *N",
+            ),
             Reason::NoBegin => f.write_str("every event of a script must be a begin"),
             Reason::Waits => {
                 f.write_str(
@@ -79,6 +98,51 @@ impl fmt::Display for Reason<'_> {
             Reason::OwnWait => f.write_str("a call can't wait for its own task"),
             Reason::NoCallBehind => f.write_str("an after must be followed by a begin"),
         }
+    }
+}
+
+// The first words of the lines of events.
+const EVENTS: &[&str] = &["begin", "step", "deny", "kill", "resize", "after"];
+
+// The calls.
+const CALLS: &[&str] = &[
+    "map", "mapn", "unmap", "load", "store", "alloc", "allock", "punch", "trunc", "exit",
+];
+
+// Asks whether this name was meant.
+fn write_meant<W: fmt::Write>(f: &mut fmt::Formatter<W>, name: Option<&str>) -> fmt::Result {
+    match name {
+        Some(name) => write!(f, ": did you mean {name}?"),
+        None => Ok(()),
+    }
+}
+
+impl Reason<'_> {
+    /// Whether what is said ends with a question.
+    pub(crate) fn is_question(&self) -> bool {
+        match *self {
+            Reason::NoEvent(word) => near(word, EVENTS).is_some(),
+            Reason::NoBeginOf(_) => true,
+            Reason::NoCall(word) => near(word, CALLS).is_some(),
+            _ => false,
+        }
+    }
+}
+
+/// What is wrong with a line in the loose form, if that can be told: its words, with one space between two, its number, counted from 1,
+/// and whether it is to be the header. No line without words is wrong, but one is missing behind the last.
+pub fn loose_reason_of(words: &[u8], number: u64, is_header: bool) -> Option<Reason<'_>> {
+    if words.is_empty() {
+        return Some(if number == 1 {
+            Reason::Nothing
+        } else {
+            Reason::HeaderMissing
+        });
+    }
+    let is_step = words.starts_with(b"step ") || words.starts_with(b"deny ");
+    match reason_of(words, true, if is_header { 1 } else { 2 }) {
+        Some(Reason::Words(3 | 4, _, _)) if is_step && !is_header => Some(Reason::NoSteps),
+        reason => reason,
     }
 }
 
@@ -171,6 +235,7 @@ fn wrong_event(line: &str) -> Option<Reason<'_>> {
         "deny" => wrong_fields(line, 1, 2, "a deny", "2"),
         "kill" => wrong_fields(line, 1, 2, "a kill", "2"),
         "resize" => wrong_fields(line, 1, 2, "a resize", "2"),
+        _ if CALLS.contains(&first) => Some(Reason::NoBeginOf(first)),
         _ => Some(Reason::NoEvent(first)),
     };
     // such a line is bad in a script alone

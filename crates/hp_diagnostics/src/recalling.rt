@@ -6,19 +6,24 @@ use crate::reason::LONGEST_LINE;
 use hp_text::{PIECE, ReplayFault, Source, Watched};
 use std::marker::Model;
 
+// A line that is too long for a header, and its end.
+const FRONT: usize = LONGEST_LINE + 2;
+
 // As much as a reader of traces reads at once, and what may stand before it of a line.
 const KEPT: usize = PIECE + LONGEST_LINE + 1;
 
-/// Gives what its source gives, and keeps the last of it: the line at which a reader of traces stopped is in it.
+/// Gives what its source gives, and keeps the last of it: the line at which a reader of traces stopped is in it. The header is kept, too.
 #[derive(Drop)]
 pub struct Recalling<S> {
     source: S,
     recent: Recent,
 }
 
-// The bytes that came last, and how many lines ended before them.
+// The bytes that came first, those that came last, and how many lines ended before these.
 #[derive(Drop)]
 struct Recent {
+    front: [u8; FRONT],
+    front_len: usize,
     before: u64,
     kept: [u8; KEPT],
     len: usize,
@@ -38,7 +43,7 @@ impl Model for Recent {
 
     ghost view = { λ recent. recent.len };
 
-    ghost invariant = { λ recent. recent.len ≤ 4153 };
+    ghost invariant = { λ recent. (recent.len ≤ 4153) × (recent.front_len ≤ 58) };
 }
 
 // Counted in bytes, so that many are compared at once: a branch for each would take as long as most else that is done with a line.
@@ -55,14 +60,24 @@ fn lines_in(bytes: &[u8]) -> u64 {
 impl Recent {
     fn new() -> Recent {
         Recent {
+            front: [0; FRONT],
+            front_len: 0,
             before: 0,
             kept: [0; KEPT],
             len: 0,
         }
     }
 
+    // Keeps as much of the piece as there is room for at the front.
+    fn begin(&mut self, piece: &[u8]) {
+        let count = piece.len().min(FRONT - self.front_len);
+        self.front[self.front_len..self.front_len + count].copy_from_slice(&piece[..count]);
+        self.front_len += count;
+    }
+
     // Keeps the piece behind what came before it, whose front goes where there is no room for all.
     fn remember(&mut self, piece: &[u8]) {
+        self.begin(piece);
         let (gone, piece) = piece.split_at(piece.len().saturating_sub(KEPT));
         let surplus = (self.len + piece.len()).saturating_sub(KEPT);
         let front = lines_in(&self.kept[..surplus]);
@@ -76,8 +91,26 @@ impl Recent {
             .saturating_add(lines_in(gone));
     }
 
+    // How many lines have ended.
+    fn ended(&self) -> u64 {
+        self.before.saturating_add(lines_in(&self.kept[..self.len]))
+    }
+
+    // The first line, if it is no longer than a header.
+    fn first(&self) -> Option<Line<'_>> {
+        let front = &self.front[..self.front_len];
+        let end = front.iter().position(|byte| *byte == b'\n')?;
+        Some(Line {
+            bytes: &front[..end],
+            is_ended: true,
+        })
+    }
+
     // The line of this number, counted from 1; none where it is not in what is kept.
     fn line(&self, number: u64) -> Option<Line<'_>> {
+        if number == 1 && self.before > 0 {
+            return self.first();
+        }
         let mut rest = &self.kept[..self.len];
         for _ in 0..number.checked_sub(self.before)?.checked_sub(1)? {
             let end = rest.iter().position(|byte| *byte == b'\n')?;
@@ -113,12 +146,21 @@ impl<S> Recalling<S> {
 pub trait Recalls {
     /// The line of this number, counted from 1.
     fn line(&self, number: u64) -> Option<Line<'_>>;
+
+    /// How many lines have ended, where they are counted.
+    fn ended(&self) -> Option<u64> {
+        None
+    }
 }
 
-/// The lines that are whole in the last 4,153 bytes.
+/// The first line, and the lines that are whole in the last 4,153 bytes.
 impl<S> Recalls for Recalling<S> {
     fn line(&self, number: u64) -> Option<Line<'_>> {
         self.recent.line(number)
+    }
+
+    fn ended(&self) -> Option<u64> {
+        Some(self.recent.ended())
     }
 }
 

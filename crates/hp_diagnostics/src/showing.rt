@@ -1,5 +1,5 @@
 //! A wrong line, as it is shown.
-use crate::reason::{LONGEST_LINE, Reason, reason_of};
+use crate::reason::{LONGEST_LINE, Reason, loose_reason_of, reason_of};
 use crate::recalling::Recalls;
 use std::fmt;
 
@@ -20,6 +20,17 @@ pub fn wrong_line<R: Recalls>(reader: &R, number: u64) -> Option<WrongLine<'_>> 
     })
 }
 
+impl<'a> WrongLine<'a> {
+    /// What is wrong with a line in the loose form, if that can be told: its words, its number, and whether it is to be the header.
+    pub fn of_loose(words: &'a [u8], number: u64, is_header: bool) -> Option<WrongLine<'a>> {
+        let reason = loose_reason_of(words, number, is_header)?;
+        Some(WrongLine {
+            reason,
+            bytes: words,
+        })
+    }
+}
+
 /// As `the line has 5 words; an alloc has 6: "begin 1 alloc 0 0"`. Of a line that is too long the front is shown.
 impl fmt::Display for WrongLine<'_> {
     fn fmt<W: fmt::Write>(&self, f: &mut fmt::Formatter<W>) -> fmt::Result {
@@ -33,6 +44,7 @@ impl fmt::Display for WrongLine<'_> {
         if shown.is_empty() {
             return Ok(());
         }
-        write!(f, ": \"{}\"{more}", shown.escape_ascii())
+        let colon = if self.reason.is_question() { "" } else { ":" };
+        write!(f, "{colon} \"{}\"{more}", shown.escape_ascii())
     }
 }

@@ -8,6 +8,7 @@ ghost use Rattle.hp_pool_commands.specs.Stepping.{AnsweredStep};
 use crate::typing::{Typed, saved_name, typed_of};
 use hp_base::{Answer, Config, Event, Op, Task};
 use hp_core::{Life, Outcome};
+use hp_diagnostics::WrongLine;
 use hp_format::{Asked, Draft, Goal, Reason, Unadded, reaches};
 use hp_program::{flush_plain, flushed_answer, text_of};
 use hp_replay::push_state;
@@ -195,9 +196,17 @@ fn lay_typed<H: Files>(
             Some(name) => lay_save(rt, alloc, draft, name, text)?,
             None => text.push_str("the file's name isn't UTF-8\n")?,
         },
-        _ => text.push_str("the line is not an event; help lists the commands\n")?,
+        _ => lay_wrong(words, text)?,
     }
     Ok(())
+}
+
+/// Says what is wrong with a line that isn't understood.
+fn lay_wrong(words: &[u8], text: &mut String) -> Result<(), AllocError> {
+    match WrongLine::of_loose(words, 2, words.starts_with(b"pool ")) {
+        Some(wrong) => writeln!(text, "{wrong}; help lists the commands"),
+        None => text.push_str("the line is not an event; help lists the commands\n"),
+    }
 }
 
 /// Appends bytes that are text.

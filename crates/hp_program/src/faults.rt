@@ -4,13 +4,18 @@ use hp_text::ReplayFault;
 use std::io;
 use std::io::Write;
 
-/// Writes a fault in one line, and in a second one what is wrong with the line that is not allowed, where the reader recalls it.
+/// Writes a fault in one line, which names the file that was read if there is one, and in a second one what is wrong with the line that
+/// is not allowed, where the reader recalls it.
 pub fn write_fault<R: Recalls>(
     fault: ReplayFault,
+    file: Option<&str>,
     reader: &R,
     faults: &mut impl Write,
 ) -> io::Result<()> {
-    writeln!(faults, "hugepool: {fault}")?;
+    match file {
+        Some(file) if is_of_input(fault) => writeln!(faults, "hugepool: {file}: {fault}")?,
+        _ => writeln!(faults, "hugepool: {fault}")?,
+    }
     let Some(number) = bad_line(fault) else {
         return Ok(());
     };
@@ -29,6 +34,14 @@ pub fn write_error(
     match reading.or(writing) {
         Some(error) => writeln!(faults, "hugepool: {error}"),
         None => Ok(()),
+    }
+}
+
+// Whether the input is at fault.
+fn is_of_input(fault: ReplayFault) -> bool {
+    match fault {
+        ReplayFault::BadHeader | ReplayFault::BadLine(_) | ReplayFault::Read => true,
+        ReplayFault::Write | ReplayFault::Memory => false,
     }
 }
 

@@ -8,12 +8,14 @@
 
 mod faults;
 mod flushing;
+mod leaving;
 mod noted;
 mod replaying;
 mod tracing;
 
 pub use faults::{write_error, write_fault};
 pub use flushing::{flush_gathered, flush_plain, flushed_answer, gather};
+pub use leaving::{Heard, LEFT, has_left, is_left};
 pub use noted::Noted;
 pub use replaying::run_replay;
 pub use tracing::text_of;

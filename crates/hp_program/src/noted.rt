@@ -5,7 +5,7 @@ ghost use Rattle.hp_program.specs.Noted.{noted_stream};
 use std::io;
 use std::io::{Read, Write};
 
-/// A stream, and the system's error of its last read or write, where that failed.
+/// A stream, and the system's error of its last read or write, where that failed, or of a flush behind it.
 #[derive(Drop)]
 pub struct Noted<S> {
     stream: S,
@@ -13,7 +13,7 @@ pub struct Noted<S> {
 }
 
 // The error of a call, if it failed.
-fn error_of(answer: &io::Result<usize>) -> Option<io::Error>
+fn error_of<T>(answer: &io::Result<T>) -> Option<io::Error>
     ensures ok { IfOk answer.now (λ _. result ≡ None) }
     ensures err { IfErr answer.now (λ error. result ≡ Some error) }
 {
@@ -34,7 +34,7 @@ impl<S> Noted<S> {
         }
     }
 
-    /// The system's error, where the last read or write failed.
+    /// The system's error, where the last read or write failed, or a flush behind it did.
     pub fn error(&self) -> Option<io::Error>
         ensures { result ≡ self.now.error }
     {
@@ -62,6 +62,8 @@ impl<W: Write> Write for Noted<W> {
     }
 
     fn flush(&mut self) -> io::Result<()> {
-        self.stream.flush()
+        let flushed = self.stream.flush();
+        self.error = self.error.or(error_of(&flushed));
+        flushed
     }
 }

@@ -7,7 +7,7 @@
 mod program;
 
 use hp_diagnostics::Recalling;
-use hp_program::{Noted, write_error};
+use hp_program::{LEFT, Noted, has_left, write_error};
 use hp_text::Watched;
 use program::program;
 use std::io;
@@ -18,6 +18,9 @@ fn main(rt: HostRuntime) -> io::Result<ExitCode> {
     let mut reader = Recalling::new(Watched::new(Noted::new(rt.stdin())));
     let out = Noted::new(rt.stdout());
     let (status, out) = program(rt.alloc(), &mut reader, out, &mut faults);
+    if has_left(&out) {
+        return Ok(ExitCode::from(LEFT));
+    }
     if status != 0 {
         let reading = reader.into_inner().into_inner().error();
         let writing = out.and_then(|out| out.error());

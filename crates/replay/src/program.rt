@@ -4,14 +4,15 @@ ghost use Rattle.std.specs.Option.{option_map};
 ghost use Rattle.replay.specs.Status.{EndsWith, status_at};
 
 use hp_diagnostics::Recalls;
-use hp_program::{run_replay, write_fault};
+use hp_program::{Heard, has_left, run_replay, write_fault};
 use hp_text::{ReplayFault, Source};
 use std::alloc::Global;
 use std::io::Write;
 
 /// Replays a trace, and returns the status: 0 where the replay came to its end, 1 after a fault, whose lines are written on
-/// `faults`. The output is handed back, unless it went with a buffer for which there was no memory.
-pub(crate) fn program<R: Source + Recalls, W: Write + Drop>(
+/// `faults` unless the reader of the output has left. The output is handed back, unless it went with a buffer for which there was no
+/// memory.
+pub(crate) fn program<R: Source + Recalls, W: Heard + Drop>(
     alloc: Global,
     reader: &mut R,
     out: W,
@@ -21,17 +22,24 @@ pub(crate) fn program<R: Source + Recalls, W: Write + Drop>(
         (W.contents out) (option_map W.contents result.1) }
 {
     let (answer, out) = run_replay(alloc, reader, out);
-    (end(answer, &*reader, faults), out)
+    (end(answer, has_left(&out), &*reader, faults), out)
 }
 
-// The status of an answer, whose fault is written. A failure to write it changes nothing.
-fn end<R: Recalls>(answer: Result<(), ReplayFault>, reader: &R, faults: &mut impl Write) -> u8
+// The status of an answer, whose fault is written unless nobody listens. A failure to write it changes nothing.
+fn end<R: Recalls>(
+    answer: Result<(), ReplayFault>,
+    has_left: bool,
+    reader: &R,
+    faults: &mut impl Write,
+) -> u8
     ensures { result ≡ status_at answer }
 {
     match answer {
         Ok(()) => 0,
         Err(fault) => {
-            let _ = write_fault(fault, reader, faults);
+            if !has_left {
+                let _ = write_fault(fault, None, reader, faults);
+            }
             1
         }
     }
