@@ -4,6 +4,7 @@ pub mod Claims
 pub mod Listing
 pub mod Making
 pub mod Maps
+pub mod Owing
 pub mod Punches
 pub mod Relaxed
 pub mod Removing

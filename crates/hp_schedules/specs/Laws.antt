@@ -1,9 +1,10 @@
 -- What holds behind every run of a machine with a whole-number reserve count.
-use Rattle.std.specs.Prelude.{◌≡◌, ℕ, ◌+◌, ◌≤◌, true, Bool, Some, Option, List, is_some}
+use Rattle.std.specs.Prelude.{◌≡◌, ℕ, ◌+◌, ◌≤◌, true, Bool, Some, Option, List, is_some, map}
 use Rattle.hp_base.specs.Indices.{count_below}
 use Rattle.hp_base.specs.Numbers.{total}
+use Rattle.hp_base.specs.declared.event.Event.{Event}
 use Rattle.hp_machine.specs.State.{Geometry, Pool}
-use Rattle.hp_machine.specs.Events.{CallRows}
+use Rattle.hp_machine.specs.Events.{CallRows, Run, opening}
 use Rattle.hp_machine.specs.Headline.{Agrees, OnePlace, all_behind, all_ahead, reserved_in, vacant_in}
 use Rattle.hp_machine.specs.State.{State}
 use Rattle.hp_machine.specs.Views.{hand}
@@ -12,6 +13,7 @@ use Rattle.hp_machine.specs.declared.call.Call.{Call}
 use Rattle.hp_counterexamples.specs.Runs.{with_calls, IsAtRest}
 use Rattle.hp_linux.specs.Whole.{Linux, begins}
 use Rattle.hp_linux.specs.Late.{Happening, LateRun}
+use Rattle.hp_linux.specs.Late.{Does}
 use Rattle.hp_accounts.specs.Books.{Books, opens}
 use Rattle.hp_accounts.specs.Entries.{Entry, AllMay, ends, ignored_in}
 use Rattle.hp_accounts.specs.Laws.{AllCareful}
@@ -26,6 +28,16 @@ AreAmong some all =
 abbrev pub RunsAreAmong : (some all : CallRows) → Type 0
 RunsAreAmong some all =
     (l : Linux) (hs : List Happening) (n : Linux) → LateRun (with_calls some) l hs n → LateRun (with_calls all) l hs n
+
+-- what happens in a run of the machine: its events, with what is told of each, and no frame becomes free late
+abbrev pub as_happenings : List (Event × Outcome) → List Happening
+as_happenings log = map (λ (e : Event × Outcome). Does e.0 e.1) log
+
+-- each run of the machine is one by these rows, in which nothing is owed: no count is lower than what a step takes
+abbrev pub HaveTheMachinesRuns : CallRows → Type 0
+HaveTheMachinesRuns rows =
+    (g : Geometry) (frames : ℕ) (log : List (Event × Outcome)) (s : State) → Run (opening g frames) log s
+    → LateRun (with_calls rows) (begins g frames) (as_happenings log) (record { state = s; debt = 0 })
 
 -- behind every run by these rows, of any number of tasks and in any order, with kills, resizes and frames that become free late
 abbrev pub Always : CallRows → (Geometry → (frames : ℕ) → Linux → Type 0) → Type 0

@@ -22,12 +22,17 @@ ghost use Rattle.hp_schedules.specs.MayRows.{MayRow};
 ghost use Rattle.hp_schedules.specs.RepairedRows.{AccountedRow, RepairedRow};
 ghost use Rattle.hp_schedules.specs.RepairedRaces.{EndsRight, raced_at_a_commit};
 ghost use Rattle.hp_schedules.specs.RelaxedRows.{AllButBelow, IsKeptBy, LookingEitherWay, RelaxedRow};
-ghost use Rattle.hp_schedules.specs.Laws.{Always, RunsAreAmong, IsListed, IsListedCarefully, TranslationsAgree, FramesAreInOnePlace};
+ghost use Rattle.hp_schedules.specs.Laws.{Always, HaveTheMachinesRuns, RunsAreAmong, IsListed, IsListedCarefully, TranslationsAgree, FramesAreInOnePlace};
 ghost use Rattle.hp_schedules.specs.Laws.{IsBalanced, IsBalancedAtRest, IsExact, IsNeverTooHigh, IsOnlyLost, IsRight, PagesAreReserved};
 
 /// Each run of the machine is one of the rows that Linux may have.
 pub fn the_machines_runs_are_among_them()
     ensures { RunsAreAmong CallRow MayRow }
+{}
+
+/// So is each from an opening pool by the machine's own word for a run, in which no count can go below zero: nothing is owed behind it.
+pub fn runs_of_the_machine_are_among_them()
+    ensures { HaveTheMachinesRuns MayRow }
 {}
 
 /// So is each by P, S, T and N.
