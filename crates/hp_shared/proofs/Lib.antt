@@ -1,3 +1,4 @@
+pub mod Calling
 pub mod Counts
 pub mod Cuts
 pub mod Gains

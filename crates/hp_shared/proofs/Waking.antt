@@ -7,8 +7,11 @@ use Rattle.hp_base.specs.declared.event.Event.TheVariants.{Begin, Step, Kill, Re
 use Rattle.hp_machine.specs.Events.{IsReached, word_of}
 use Rattle.hp_machine.specs.State as machine
 use Rattle.hp_machine.specs.declared.call.Call.{Call}
+use Rattle.hp_machine.specs.declared.outcome.Refusal.{Refusal}
+use Rattle.hp_machine.specs.declared.outcome.Outcome.TheVariants.{Blocked, Refused}
 use Rattle.hp_machine.specs.declared.outcome.Outcome.{Outcome}
 use Rattle.hp_laws.specs.Laws.{CallersLive}
+use Rattle.hp_laws.proofs.Reading.{step_cases}
 use Rattle.hp_core.specs.Passing.{WaitOn, may_release, task_may_leave}
 use Rattle.hp_core.specs.Readers.{config_of, phase_of}
 use Rattle.hp_core.specs.Runs.{IsOfConfig, Row}
@@ -77,3 +80,26 @@ pub cut_core : (cut : Result Part CutFault) (old new : PoolState) (seats after :
     → OnErr cut ((new ≡ old) × (after ≡ seats)) → new.core ≡ old.core
 cut_core (Ok part) old new seats after made same = made.core
 cut_core (Err fault) old new seats after made same = ap (λ (p : PoolState). p.core) same.0
+
+-- nobody holds up a task that isn't there
+pub nobody_holds_up : (s : CoreState) (t : ℕ) → IsOfConfig s → CallersLive (as_state s) → ((t ≡ 0) ⊎ ((config_of s).tasks < t))
+    → WaitsFor s t None
+unfolding WaitsFor Row config_of
+nobody_holds_up s t config live away grant holder new row =
+    step_cases (as_state s) t grant (Blocked holder) (as_state new) ⊥ row.0 (λ why told _. refused why told)
+    (λ c lives some pool next _ _. there c some away)
+  where
+    tasks : (as_state s).geometry.tasks ≡ s.sizes.tasks
+    tasks = ap (λ (g : machine.Geometry). g.tasks) config.0
+
+    there : (c : Call) → (as_state s).calls t ≡ Some c → ((t ≡ 0) ⊎ (s.sizes.tasks < t)) → ⊥
+    there c e (inl none) = let lives = live t c e in omega (arith, none, lives.0)
+    there c e (inr above) = let lives = live t c e in omega (arith, above, tasks, lives.1)
+
+    refused : (why : Refusal) → Blocked holder ≡ Refused why → ⊥
+    refused why told = absurd cc
+
+-- who is held up by somebody isn't held up by nobody
+pub one_of_both : {A : Type 0} (s : CoreState) (t holder : ℕ) → WaitsFor s t (Some holder) → WaitsFor s t None → A
+unfolding WaitsFor
+one_of_both s t holder held free = absurd (free true holder s (held true))

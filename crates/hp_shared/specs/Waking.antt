@@ -1,5 +1,5 @@
 -- Who sleeps at the lock, and who was called.
-use Rattle.std.specs.Prelude.{◌≡◌, ◌≢◌, ◌+◌, ◌<◌, ◌≤◌, ◌⊎◌, ℕ, List, Option, Some, slice_index_or}
+use Rattle.std.specs.Prelude.{◌≡◌, ◌≢◌, ◌+◌, ◌<◌, ◌≤◌, ◌⊎◌, ℕ, List, Option, None, Some, slice_index_or}
 use Rattle.hp_core.specs.State.{CoreState}
 use Rattle.hp_core.specs.Waiting.{WaitsFor}
 use Rattle.hp_shared.specs.States.{PoolState}
@@ -46,3 +46,30 @@ AreWatched core stances = NoneCalled stances → AreHeldUp core stances
 -- each task but this one that waited for a holder waits for it
 abbrev pub OthersWaitOn : (own : ℕ) → CoreState → CoreState → Type 0
 OthersWaitOn own old new = (task holder : ℕ) → task ≢ own → WaitsFor old task (Some holder) → WaitsFor new task (Some holder)
+
+-- the task of a place sleeps though nobody's call holds it up
+abbrev pub IsFree : CoreState → List Stance → (place : ℕ) → Type 0
+IsFree core stances place = (stance_in stances place ≡ Asleep) × WaitsFor core (place + 1) None
+
+-- for the places from one to another, but this task's
+abbrev pub AreHeldUpBetween : (own from to : ℕ) → CoreState → List Stance → Type 0
+AreHeldUpBetween own from to core stances = (place : ℕ) → place + 1 ≢ own → from ≤ place → place < to → IsHeldUp core stances place
+
+-- it comes first: of the tasks behind this one, which the last is followed by the first of all
+abbrev pub IsFirstBehind : (task : ℕ) → CoreState → List Stance → (place : ℕ) → Type 0
+IsFirstBehind task core stances place =
+    (task ≤ place) × AreHeldUpBetween task task place core stances
+    ⊎ (place < task) × AreHeldUpBetween task task 64 core stances × AreHeldUpBetween task 0 place core stances
+
+-- the task that is called behind a hold of another: it slept though nobody held it up, and comes first among those
+pub record IsCalled (task : ℕ) (core : CoreState) (old new : List Stance) (called : ℕ) : Type 0 where
+  pub place : ℕ
+  pub number : called ≡ place + 1
+  pub free : IsFree core old place
+  pub first : IsFirstBehind task core old place
+  pub now : stance_in new place ≡ Called
+
+-- whoever else slept sleeps, or is the task that is handed out
+abbrev pub SleepsOn : (own : ℕ) → (called : Option ℕ) → (old new : List Stance) → Type 0
+SleepsOn own called old new =
+    (place : ℕ) → place + 1 ≢ own → stance_in old place ≡ Asleep → (stance_in new place ≡ Asleep) ⊎ (called ≡ Some (place + 1))

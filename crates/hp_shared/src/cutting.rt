@@ -1,5 +1,5 @@
 //! Cutting the journal: what was compared need not be kept.
-ghost use Rattle.std.specs.Prelude.{◌≡◌, ◌+◌, ◌<◌, ◌≤◌, ◌^◌, IfOk, IfErr, OnOk, OnErr, MatchOption, false, length, map};
+ghost use Rattle.std.specs.Prelude.{◌≡◌, ◌+◌, ◌<◌, ◌≤◌, ◌^◌, IfOk, IfErr, OnOk, OnErr, MatchOption, MatchResult, Ok, Err, false, length, map};
 ghost use Rattle.hp_core.specs.Readers.{calls_of, config_of};
 ghost use Rattle.hp_shared.specs.Closing.{ClosesWith};
 ghost use Rattle.hp_shared.specs.Cutting.{IsAtRest, IsCut, RefusesCut, NoneInFlight, LeastInFlight, is_in_flight};
@@ -73,6 +73,19 @@ fn empty_seats<L: Ledger>(book: &mut Book<L>, seats: &mut [Seat<L>])
     }
 }
 
+// What a cut is answered that was compared so.
+fn compared(verdict: Result<Result<(), u64>, AllocError>) -> Result<(), CutFault>
+    ensures same { IfOk verdict (λ verdict. MatchResult verdict
+        (λ _. result ≡ Ok tt) (λ position. result ≡ Err (CutFault.Disagree position))) }
+    ensures memory { OnErr verdict (result ≡ Err CutFault.Memory) }
+{
+    match verdict {
+        Ok(Ok(())) => Ok(()),
+        Ok(Err(position)) => Err(CutFault::Disagree(position)),
+        Err(AllocError) => Err(CutFault::Memory),
+    }
+}
+
 impl<L: Ledger> Pool<L> {
     /// Compares the journal with the lists of all seats and, where it is their interleaving, hands it out and begins a new
     /// one: lists and journal are empty, and the pool keeps its core as it is now. No call may be in flight. On a fault
@@ -119,10 +132,6 @@ impl<L: Ledger> Pool<L> {
         if self.first + self.journal.len() as u64 >= LAST {
             return Err(CutFault::Full);
         }
-        match self.compare(alloc, seats) {
-            Ok(Ok(())) => Ok(()),
-            Ok(Err(position)) => Err(CutFault::Disagree(position)),
-            Err(AllocError) => Err(CutFault::Memory),
-        }
+        compared(self.compare(alloc, seats))
     }
 }

@@ -192,10 +192,14 @@ impl<L: Ledger> Pool<L> {
 
     /// Whether another task's call holds up the next step of this task.
     pub fn holds_up(&self, task: Task) -> bool
-        ensures { MatchBool result
+        ensures held_up { MatchBool result
             ((holder : ℕ) × WaitsFor self.now.core task (Some holder))
             (1 ≤ task → task ≤ (config_of self.now.core).tasks → WaitsFor self.now.core task None) }
+        ensures free { result ≡ false → WaitsFor self.now.core task None }
     {
+        self.core.always();
+        self.core.is_reached();
+        hp_laws::callers_live();
         let number = task.number();
         if number == 0 {
             return false;

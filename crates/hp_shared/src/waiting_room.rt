@@ -1,14 +1,15 @@
 //! The pool beside those who wait at it: who sleeps, and who was called.
-ghost use Rattle.std.specs.Prelude.{◌≡◌, ◌≢◌, ◌+◌, ◌<◌, ◌≤◌, ◌⊎◌, ℕ, IfOk, OnOk, OnErr, IfErr, MatchBool, MatchOption, None, false, map};
+ghost use Rattle.std.specs.Prelude.{◌≡◌, ◌≢◌, ◌+◌, ◌<◌, ◌≤◌, ◌⊎◌, ℕ, IfOk, OnOk, OnErr, IfErr, IfSome, MatchBool, MatchOption, None, Some, false, map};
 ghost use Rattle.hp_core.specs.Runs.{Row};
 ghost use Rattle.hp_core.specs.State.{CoreState};
+ghost use Rattle.hp_core.specs.Waiting.{WaitsFor};
 ghost use Rattle.hp_shared.specs.Calls.{IsOwn};
 ghost use Rattle.hp_shared.specs.Closing.{ClosesWith};
 ghost use Rattle.hp_shared.specs.Cutting.{emptied, MayRefuseCut};
 ghost use Rattle.hp_shared.specs.Journal.{IsOutcomeOf, IsCameTo};
 ghost use Rattle.hp_shared.specs.States.{next, pool_with, seat_with};
-ghost use Rattle.hp_shared.specs.Waking.{AreHeldUp, AreHeldUpBut, AreHeldUpIn, AreWatched, HandsOut, NoneCalled};
-ghost use Rattle.hp_shared.specs.Waking.{RoomState, stance_in};
+ghost use Rattle.hp_shared.specs.Waking.{AreHeldUp, AreHeldUpBut, AreHeldUpIn, AreWatched, HandsOut, IsCalled, IsFirstBehind, IsFree, NoneCalled};
+ghost use Rattle.hp_shared.specs.Waking.{RoomState, SleepsOn, stance_in};
 ghost use Rattle.hp_shared.specs.declared.waiting_room.Stance.TheVariants as stance;
 
 use crate::cutting::Part;
@@ -77,7 +78,9 @@ fn free_in<L: Ledger>(
     to: usize,
 ) -> Option<usize>
     requires { to ≤ 64 }
-    ensures { MatchOption result (AreHeldUpIn from to pool.now.core stances.now) (λ place. place < 64) }
+    ensures held_up { MatchOption result (AreHeldUpIn from to pool.now.core stances.now) (λ place. place < 64) }
+    ensures free { IfSome result (λ place. IsFree pool.now.core stances.now place) }
+    ensures first { IfSome result (λ place. (from ≤ place) × (place < to) × AreHeldUpIn from place pool.now.core stances.now) }
 {
     for place in from..to {
         let task = Task::new(place as u32 + 1);
@@ -90,7 +93,9 @@ fn free_in<L: Ledger>(
 
 // The same of all places, those behind the task's own first, so that each has its turn.
 fn free_behind<L: Ledger>(pool: &Pool<L>, stances: &[Stance; PLACES], task: Task) -> Option<usize>
-    ensures { MatchOption result (AreHeldUp pool.now.core stances.now) (λ place. place < 64) }
+    ensures held_up { MatchOption result (AreHeldUp pool.now.core stances.now) (λ place. place < 64) }
+    ensures free { IfSome result (λ place. IsFree pool.now.core stances.now place) }
+    ensures first { IfSome result (λ place. IsFirstBehind task pool.now.core stances.now place) }
 {
     let behind = PLACES.min(task.number() as usize);
     let found = free_in(pool, stances, behind, PLACES);
@@ -104,10 +109,20 @@ fn free_behind<L: Ledger>(pool: &Pool<L>, stances: &[Stance; PLACES], task: Task
 fn call_one<L: Ledger>(pool: &Pool<L>, stances: &mut [Stance; PLACES], task: Task) -> Option<Task>
     ensures watched { AreWatched pool.now.core stances.new }
     ensures called { HandsOut result stances.old stances.new }
+    ensures free { IfSome result (λ called. IsCalled task pool.now.core stances.old stances.new called) }
+    ensures sleep { SleepsOn task result stances.old stances.new }
 {
     let place = free_behind(pool, stances, task)?;
     stances[place] = Stance::Called;
     Some(Task::new(place as u32 + 1))
+}
+
+// Whether the task of a place is up.
+fn is_up(stances: &[Stance; PLACES], place: usize) -> bool
+    requires { place < 64 }
+    ensures { MatchBool result (stance_in stances.now place ≡ stance.Up) (stance_in stances.now place ≢ stance.Up) }
+{
+    stances[place] == Stance::Up
 }
 
 // Whether the task sleeps.
@@ -146,6 +161,8 @@ fn pass_on<L: Ledger>(
     requires { is_released ≡ false → NoneCalled stances.old → AreHeldUpBut task pool.now.core stances.old }
     ensures watched { AreWatched pool.now.core stances.new }
     ensures called { HandsOut result stances.old stances.new }
+    ensures free { IfSome result (λ called. IsCalled task pool.now.core stances.old stances.new called) }
+    ensures sleep { SleepsOn task result stances.old stances.new }
 {
     let was_called = rise(stances, task);
     if is_released || was_called {
@@ -193,6 +210,9 @@ impl<L: Ledger> WaitingRoom<L> {
         ensures seat { IfOk result.0 (λ outcome. seat.new ≡ seat_with seat.old (next self.old.pool) event outcome) }
         ensures kind { IfOk result.0 (λ outcome. IsOutcomeOf event outcome) }
         ensures called { HandsOut result.1 self.old.stances self.new.stances }
+        ensures free { IfSome result.1 (λ called.
+            IsCalled seat.old.task self.new.pool.core self.old.stances self.new.stances called) }
+        ensures sleep { SleepsOn seat.old.task result.1 self.old.stances self.new.stances }
         ensures err { OnErr result.0 ((self.new.pool ≡ self.old.pool) × (seat.new ≡ seat.old)) }
     {
         let task = seat.task();
@@ -212,11 +232,16 @@ impl<L: Ledger> WaitingRoom<L> {
     pub(crate) fn lie_down(&mut self, task: Task)
         ensures pool { self.new.pool ≡ self.old.pool }
         ensures called { HandsOut None self.old.stances self.new.stances }
+        ensures asleep { (place holder : ℕ) → place < 64 → place + 1 ≡ task → stance_in self.old.stances place ≡ stance.Up
+            → WaitsFor self.old.pool.core task (Some holder) → stance_in self.new.stances place ≡ stance.Asleep }
+        ensures free { WaitsFor self.old.pool.core task None → self.new.stances ≡ self.old.stances }
+        ensures others { (place : ℕ) → place + 1 ≢ task
+            → stance_in self.new.stances place ≡ stance_in self.old.stances place }
     {
         let Some(place) = place_of(task) else {
             return;
         };
-        if self.stances[place] == Stance::Up && self.pool.holds_up(task) {
+        if is_up(&self.stances, place) && self.pool.holds_up(task) {
             self.stances[place] = Stance::Asleep;
         }
     }
@@ -234,6 +259,9 @@ impl<L: Ledger> WaitingRoom<L> {
     pub(crate) fn give_up(&mut self, task: Task) -> Option<Task>
         ensures pool { self.new.pool ≡ self.old.pool }
         ensures called { HandsOut result self.old.stances self.new.stances }
+        ensures free { IfSome result (λ called.
+            IsCalled task self.new.pool.core self.old.stances self.new.stances called) }
+        ensures sleep { SleepsOn task result self.old.stances self.new.stances }
     {
         pass_on(&self.pool, &mut self.stances, task, false)
     }
