@@ -19,7 +19,7 @@ use Rattle.hp_machine.specs.declared.outcome.Outcome.TheVariants as outcome
 use Rattle.hp_text.specs.Columns.{column_of, column_of_task}
 use Rattle.hp_watch.specs.Happenings.{Happening, Happens, phase_in}
 use Rattle.hp_draw.specs.Following.{standing_after, stay_in, stay_left}
-use Rattle.hp_draw.specs.Following.{failed_with, failure_of, has_moved, next_of, mark_of, mark_with, sign_of}
+use Rattle.hp_draw.specs.Following.{block_behind, block_of, failed_with, failure_of, has_moved, next_of, mark_of, mark_with, sign_of}
 use Rattle.hp_draw.specs.Lists.{listed}
 use Rattle.hp_draw.specs.Places.{InColumns}
 use Rattle.hp_draw.specs.Sketches.{Drawn, IsDrawn, nothing_drawn, after, after_all, stays_in, waiting_then}
@@ -80,6 +80,15 @@ fails_inside n column at outcome.Marked h = tt
 fails_inside n column at (outcome.Resized frames) h = tt
 fails_inside n column at (outcome.Refused why) h = tt
 
+blocks_inside : (n column at : ℕ) (event : Event) (outcome : Outcome) → column < n → IfSome (block_of column at event outcome) (λ x. x.column < n)
+blocks_inside n column at event outcome.Begun h = tt
+blocks_inside n column at event (outcome.Moved to) h = tt
+blocks_inside n column at event (outcome.Blocked holder) h = mark_inside n column at (block_behind event holder) h
+blocks_inside n column at event (outcome.Ended answer) h = tt
+blocks_inside n column at event outcome.Marked h = tt
+blocks_inside n column at event (outcome.Resized frames) h = tt
+blocks_inside n column at event (outcome.Refused why) h = tt
+
 -- the waits of tasks
 
 if_wait : (n : ℕ) (b : Bool) (w : Wait) → w.column < n → IfSome (if b then None else Some w) (λ x. x.column < n)
@@ -122,11 +131,16 @@ after_inside tasks at d h same i =
           (listed_all (λ s. s.column < tasks + 1) (stay_left column at before now h.outcome)
           (left_inside (tasks + 1) column at before now h.outcome there));
       marks =
-          All-append (λ m. m.column < tasks + 1) (d.marks ++ listed (mark_of column at h.event h.outcome))
+          All-append (λ m. m.column < tasks + 1)
+          ((d.marks ++ listed (mark_of column at h.event h.outcome)) ++ listed (block_of column at h.event h.outcome))
           (listed (failure_of column at h.outcome))
+          (All-append (λ m. m.column < tasks + 1) (d.marks ++ listed (mark_of column at h.event h.outcome))
+          (listed (block_of column at h.event h.outcome))
           (All-append (λ m. m.column < tasks + 1) d.marks (listed (mark_of column at h.event h.outcome)) i.marks
           (listed_all (λ m. m.column < tasks + 1) (mark_of column at h.event h.outcome)
           (mark_inside (tasks + 1) column at (sign_of h.event h.outcome) there)))
+          (listed_all (λ m. m.column < tasks + 1) (block_of column at h.event h.outcome)
+          (blocks_inside (tasks + 1) column at h.event h.outcome there)))
           (listed_all (λ m. m.column < tasks + 1) (failure_of column at h.outcome)
           (fails_inside (tasks + 1) column at h.outcome there));
       waits =

@@ -3,15 +3,12 @@ use Rattle.std.proofs.Common.{◌≡◌, ℕ, ◌+◌, ◌<◌, ◌≤◌, List,
 use Rattle.std.proofs.Common.{append_assoc, add-one}
 use Rattle.std.proofs.lemmas.List.{append-nil, get_or_default, take_more, take_all}
 use Rattle.std.specs.Prelude.{None, pos}
+use Rattle.hp_text.proofs.Writes.{more_text}
 use Rattle.hp_draw.specs.declared.following.Numbers.{Numbers}
 use Rattle.hp_draw.specs.Frames.{number_at, numbers_text}
 use Rattle.hp_draw.specs.Lanes.{lane_text, lanes_text}
 use Rattle.hp_draw.specs.Shapes.{texts}
 use Rattle.hp_draw.specs.declared.layout.Layout.{Layout}
-
--- a part more of a text that is appended
-more_text : (old front part now new : List ℕ) → now ≡ old ++ front → new ≡ now ++ part → new ≡ old ++ (front ++ part)
-more_text old front part now new is e = e ∙ ap (λ (x : List ℕ). x ++ part) is ∙ append_assoc old front part
 
 -- what is written of a list and of one thing more
 texts_more : {A : Type 0} (f : A → List ℕ) (xs : List A) (x : A) → texts f (xs ++ (x ∷ [])) ≡ texts f xs ++ f x

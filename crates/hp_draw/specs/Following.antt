@@ -97,6 +97,24 @@ mark_with column at (Some s) = Some (record { column = column; at = at; sign = s
 abbrev pub mark_of : (column at : ℕ) → Event → Outcome → Option Mark
 mark_of column at event outcome = mark_with column at (sign_of event outcome)
 
+-- what is marked of a blocked step beside what is marked of its event: a denied one has a mark of its own
+abbrev pub block_behind : Event → (holder : ℕ) → Option Sign
+block_behind (Begin task op) holder = None
+block_behind (Step task true) holder = None
+block_behind (Step task false) holder = Some (sign.Blocked holder)
+block_behind (Kill task) holder = None
+block_behind (Resize frames) holder = None
+
+-- the mark of a denied step that was blocked, beside the one of its denial
+abbrev pub block_of : (column at : ℕ) → Event → Outcome → Option Mark
+block_of column at event outcome.Begun = None
+block_of column at event (outcome.Moved to) = None
+block_of column at event (outcome.Blocked holder) = mark_with column at (block_behind event holder)
+block_of column at event (outcome.Ended answer) = None
+block_of column at event outcome.Marked = None
+block_of column at event (outcome.Resized frames) = None
+block_of column at event (outcome.Refused why) = None
+
 -- whether a call that ends so did not do what it was to do
 abbrev pub is_failure : Answer → Bool
 is_failure (answer.Mapped base) = false

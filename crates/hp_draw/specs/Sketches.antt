@@ -10,7 +10,7 @@ use Rattle.hp_core.specs.State.{CoreState}
 use Rattle.hp_core.specs.Waiting.{WaitsFor}
 use Rattle.hp_text.specs.Columns.{column_of}
 use Rattle.hp_watch.specs.Happenings.{Happening, Happens, events_of, phase_in}
-use Rattle.hp_draw.specs.Following.{standing_after, stay_left, stay_in, mark_of, failure_of, numbers_of}
+use Rattle.hp_draw.specs.Following.{standing_after, stay_left, stay_in, mark_of, block_of, failure_of, numbers_of}
 use Rattle.hp_draw.specs.Lists.{listed}
 use Rattle.hp_draw.specs.Waits.{GoesOn, IsShown, waiting_tasks, waits_left}
 use Rattle.hp_draw.specs.declared.following.Standing.{Standing}
@@ -57,7 +57,9 @@ added at column before now d h =
     record {
       standings = slice_set d.standings column now;
       stays = d.stays ++ listed (stay_left column at before now h.outcome);
-      marks = (d.marks ++ listed (mark_of column at h.event h.outcome)) ++ listed (failure_of column at h.outcome);
+      marks =
+          ((d.marks ++ listed (mark_of column at h.event h.outcome)) ++ listed (block_of column at h.event h.outcome))
+          ++ listed (failure_of column at h.outcome);
       numbers = d.numbers ++ (numbers_of h.core at ∷ []);
       waiting = waiting_then at d h;
       waits = d.waits ++ waits_left at d.waiting (waiting_then at d h) (length d.waiting);

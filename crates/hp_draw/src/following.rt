@@ -1,7 +1,7 @@
 //! What an event changes of what is drawn.
 ghost use Rattle.std.specs.Prelude.{◌≡◌, ◌++◌, Bool, OnOk};
 ghost use Rattle.hp_core.specs.Readers.{quota_of};
-ghost use Rattle.hp_draw.specs.Following.{begun, counted_use, failure_of, has_moved, is_failure, mark_of, moved, next_of, numbers_of};
+ghost use Rattle.hp_draw.specs.Following.{begun, block_of, counted_use, failure_of, has_moved, is_failure, mark_of, moved, next_of, numbers_of};
 ghost use Rattle.hp_draw.specs.Following.{sign_of, standing_after, stay_in, stay_left, stay_of};
 ghost use Rattle.hp_draw.specs.Lists.{listed};
 
@@ -244,6 +244,20 @@ pub(crate) fn mark_of(column: usize, at: u32, event: &Event, outcome: &Outcome) 
     match sign_of(event, outcome) {
         Some(sign) => Some(Mark { column, at, sign }),
         None => None,
+    }
+}
+
+/// The mark of a denied step that was blocked, beside the one of its denial.
+pub(crate) fn block_of(column: usize, at: u32, event: &Event, outcome: &Outcome) -> Option<Mark>
+    ensures { result ≡ block_of column at event.now outcome.now }
+{
+    match (event, outcome) {
+        (Event::Step(_task, false), Outcome::Blocked(holder)) => Some(Mark {
+            column,
+            at,
+            sign: Sign::Blocked(*holder),
+        }),
+        _ => None,
     }
 }
 

@@ -6,7 +6,7 @@ ghost use Rattle.hp_draw.specs.Lists.{listed};
 ghost use Rattle.hp_draw.specs.Sketches.{IsDrawn, after, ended, nothing_drawn, seen, stays_in};
 
 use crate::following::{
-    Mark, Numbers, Standing, Stay, add_mark, add_stay, failure_of, mark_of, numbers_of,
+    Mark, Numbers, Standing, Stay, add_mark, add_stay, block_of, failure_of, mark_of, numbers_of,
     standing_after, stay_in, stay_left,
 };
 use crate::waits::Waits;
@@ -107,6 +107,7 @@ fn add_event(
     )?;
     set_standing(sketch.standings.as_mut_slice(), column, now);
     add_mark(&mut sketch.marks, mark_of(column, at, event, outcome))?;
+    add_mark(&mut sketch.marks, block_of(column, at, event, outcome))?;
     add_mark(&mut sketch.marks, failure_of(column, at, outcome))?;
     sketch.numbers.push(numbers_of(core, at))?;
     sketch.waits.follow(core, at, run.holders.as_slice())
