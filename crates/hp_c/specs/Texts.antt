@@ -1,7 +1,7 @@
 -- What an export answers of the text of a trace.
 use Rattle.std.specs.Prelude.{◌≡◌, ◌⊎◌, ◌<◌, ℕ, List, [], drop, length, take, Option, Some}
 use Rattle.hp_replay.specs.Replaying.{Replayed}
-use Rattle.hp_text.specs.Traces.{BeginsNoHeader, HasBadLine}
+use Rattle.hp_text.specs.Traces.{BeginsNoHeader, HasBadLine, IsLineFault}
 use Rattle.hp_text.specs.declared.fault.ReplayFault.{ReplayFault}
 use Rattle.hp_text.specs.declared.fault.ReplayFault.TheVariants as fault
 use Rattle.hp_text.specs.Checking.{ReadsEvents}
@@ -57,6 +57,10 @@ IsTooLong Is room needed line = (text : List ℕ) × Is text × (needed ≡ leng
 -- the bytes have a fault, which is told, or there was no memory
 abbrev pub IsFaulty : (bytes : List ℕ) → (code line : ℕ) → Type 0
 IsFaulty bytes code line = (fault : ReplayFault) × HasFaultTold bytes fault × Codes fault code line
+
+-- a line of the bytes is bad, which is told; memory doesn't come into it
+abbrev pub IsBadTrace : (bytes : List ℕ) → (code line : ℕ) → Type 0
+IsBadTrace bytes code line = (fault : ReplayFault) × IsLineFault fault × HasFaultTold bytes fault × Codes fault code line
 
 -- a text is put into the room, or there is too little
 abbrev pub Tells : (text old new : List ℕ) → (needed code line : ℕ) → Type 0

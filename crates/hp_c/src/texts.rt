@@ -1,7 +1,7 @@
 //! Whole texts: a trace is replayed, explained, drawn or checked.
 ghost use Rattle.std.specs.Prelude.{◌≡◌, ◌≤◌, ◌<◌, ⊤, IfOk, IfErr, IsTrue, IsFalse, length};
 ghost use Rattle.hp_c.specs.Answers.{Answered};
-ghost use Rattle.hp_c.specs.Texts.{Codes, Counts, Draws, Explains, HasFaultTold, IsFaulty, IsPut, NotShown, Replays, Shown, Tells};
+ghost use Rattle.hp_c.specs.Texts.{Codes, Counts, Draws, Explains, HasFaultTold, IsBadTrace, IsFaulty, IsPut, NotShown, Replays, Shown, Tells};
 
 use crate::codes::{BAD_HEADER, BAD_LINE, NO_MEMORY, OK, TOO_SMALL};
 use hp_draw::draw;
@@ -144,6 +144,7 @@ pub extern "C" fn hugepool_draw(
 pub extern "C" fn hugepool_check(trace: &[u8], events: &mut u32, line: &mut u32) -> u32
     ensures counted { Answered result (Counts trace.now events.new × (line.new ≡ 0)) (events.new ≡ events.old) }
     ensures code { Answered result ⊤ (IsFaulty trace.now result line.new) }
+    ensures bad { Answered result ⊤ (IsBadTrace trace.now result line.new) }
 {
     let mut source = trace;
     match check_trace(&mut source) {
