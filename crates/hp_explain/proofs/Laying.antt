@@ -3,6 +3,7 @@ use Rattle.std.proofs.Common.{◌≡◌, ℕ, suc, ◌+◌, List, ◌∷◌, [],
 use Rattle.std.specs.Prelude.{◌==◌, Bool, Option, None, Result, Ok, Err, OnOk, codes, slice_index_or}
 use Rattle.std.specs.Fmt.{decimal}
 use Rattle.std.proofs.lemmas.List.{append-nil}
+use Rattle.hp_text.proofs.Writes.{more_text}
 use Rattle.hp_core.specs.Acquiring.{acquired_of}
 use Rattle.hp_core.specs.Readers.{phase_of}
 use Rattle.hp_core.specs.State.{CoreState}
@@ -11,10 +12,6 @@ use Rattle.hp_explain.specs.Layout.{spaces, column, columns, titled, titles}
 use Rattle.hp_explain.specs.Rows.{calls_text, if_in_flight}
 use Rattle.hp_explain.specs.Waits.{change_text, changes_text, wait_text}
 use Rattle.hp_explain.specs.Words.{wanted_text}
-
--- a part more of a text that is appended
-more_text : (old front part now new : List ℕ) → now ≡ old ++ front → new ≡ now ++ part → new ≡ old ++ (front ++ part)
-more_text old front part now new is e = e ∙ ap (λ (x : List ℕ). x ++ part) is ∙ append_assoc old front part
 
 pub no_space : (old : List ℕ) → old ≡ old ++ spaces 0
 unfolding spaces

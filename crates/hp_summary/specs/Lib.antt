@@ -1,3 +1,4 @@
+pub mod CallWords
 pub mod Facts
 pub mod Gathering
 pub mod Noting

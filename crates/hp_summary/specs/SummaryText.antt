@@ -6,6 +6,7 @@ use Rattle.hp_base.specs.Text.{answer_text}
 use Rattle.hp_machine.specs.Text.{phase_word}
 use Rattle.hp_machine.specs.declared.phase.Phase.{Phase}
 use Rattle.hp_phases.specs.Phases.{all_phases, place_of}
+use Rattle.hp_summary.specs.CallWords.{word_text}
 use Rattle.hp_summary.specs.Phases.{pair_place}
 use Rattle.hp_summary.specs.declared.facts.Ended.{Ended}
 use Rattle.hp_summary.specs.declared.summary.Summary.{Summary}
@@ -44,11 +45,11 @@ met_line met p q =
 abbrev pub met_text : List ℕ → List ℕ
 met_text met = flat_map (λ p. flat_map (met_line met p) all_phases) all_phases
 
--- ` | T ANSWER`: a call of task T that ended
+-- ` | T CALL ANSWER`: a call of task T that ended
 abbrev pub call_text : Ended → List ℕ
-call_text e = codes " | " ++ (decimal e.task ++ (codes " " ++ answer_text e.answer))
+call_text e = codes " | " ++ (decimal e.task ++ (codes " " ++ (word_text e.call ++ (codes " " ++ answer_text e.answer))))
 
--- `ending N run K seed S | T ANSWER ..`: so many runs ended in this way, and run K, which has that seed, was the first
+-- `ending N run K seed S | T CALL ANSWER ..`: so many runs ended in this way, and run K, which has that seed, was the first
 abbrev pub ending_line : (seed : ℕ) → Ending → List ℕ
 ending_line seed e =
     codes "ending " ++ (decimal e.runs ++ (codes " run " ++ (decimal e.first ++ (codes " seed " ++ (decimal ((seed + e.first) % 2 ^ 64)

@@ -1,11 +1,13 @@
 //! What a summary is told of one run.
+use crate::call_word::CallWord;
 use hp_base::{Answer, Task};
 use hp_explore::RunLine;
 
-/// A call that ended: whose it was, and its answer.
+/// A call that ended: whose it was, which it was, and its answer.
 #[derive(Clone, Copy, Debug, PartialEq, Eq)]
 pub struct Ended {
     pub task: Task,
+    pub call: CallWord,
     pub answer: Answer,
 }
 

@@ -4,6 +4,7 @@
 //! of, each by its own facts, and that it is written as it is spelled. It knows no conditions and no words of a command line.
 #![tactic(auto)]
 
+mod call_word;
 mod facts;
 mod gathering;
 mod noting;
@@ -12,6 +13,7 @@ mod summary;
 mod summary_text;
 mod tally;
 
+pub use call_word::CallWord;
 pub use facts::{Ended, RunFacts};
 pub use gathering::Survey;
 pub use summary::{Summary, summarize};

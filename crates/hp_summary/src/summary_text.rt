@@ -104,8 +104,8 @@ fn push_met(met: &[u32], text: &mut String) -> Result<(), AllocError>
 fn push_call(call: Ended, text: &mut String) -> Result<(), AllocError>
     ensures { OnOk result (string_bytes text.new ≡ string_bytes text.old ++ call_text call) }
 {
-    let Ended { task, answer } = call;
-    write!(text, " | {task} {answer}")
+    let Ended { task, call, answer } = call;
+    write!(text, " | {task} {call} {answer}")
 }
 
 /// Lays out the calls that ended.
