@@ -70,7 +70,7 @@ pub same_free : (s n : State) → Twins s n → free_frames n.frame n.frames ≡
 same_free s n h = ap (λ (m : State). free_frames m.frame m.frames) h.alike.1 ∙ frees_renamed (pool_of s) h.alike.0 refl
 
 -- a blocked step of one tells that the other's is blocked
-blocked_there : (s n v : State) (t holder : ℕ) (grant : Bool) → Twins s n → Row s (Step t grant) (Blocked holder) v
+pub blocked_there : (s n v : State) (t holder : ℕ) (grant : Bool) → Twins s n → Row s (Step t grant) (Blocked holder) v
     → Row n (Step t grant) (Blocked holder) n
 blocked_there s n v t holder grant h a =
     let next = no_dead_ends n (Step t grant) h.other in

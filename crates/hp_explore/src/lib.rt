@@ -29,3 +29,4 @@ pub use plan::{Chances, Plan};
 pub use run_lines::write_lines;
 pub use scheduled_run::ScheduledRun;
 pub use turned::Turned;
+pub use walk::Walk;

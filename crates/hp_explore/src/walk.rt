@@ -1,10 +1,10 @@
 //! One run, turn by turn. A turn takes about a hundred nanoseconds, so what it calls is inlined: a call that isn't passes
 //! what it answers through memory.
 ghost use Rattle.std.specs.Prelude.{◌≡◌, ◌+◌, ◌-◌, ◌<◌, ◌≤◌, ◌^◌, true, false, [], None, Some, IfOk, IfSome, OnOk};
-ghost use Rattle.std.specs.Prelude.{◌⊎◌, ℕ, IsSome, All, filter, is_some, length, slice_index};
+ghost use Rattle.std.specs.Prelude.{◌⊎◌, ℕ, IsSome, All, filter, is_some, length, slice_index, slice_set};
 ghost use Rattle.std.specs.List.{list_all};
 ghost use Rattle.hp_machine.specs.State.{is_alive};
-ghost use Rattle.hp_core.specs.Readers.{life_of, phase_of};
+ghost use Rattle.hp_core.specs.Readers.{config_of, life_of, phase_of};
 ghost use Rattle.hp_core.specs.Runs.{Row};
 ghost use Rattle.hp_machine.specs.declared.outcome.Outcome.{Outcome};
 ghost use Rattle.hp_laws.specs.Laws.{IsOf};
@@ -32,7 +32,7 @@ use std::marker::Model;
 
 /// A run between two turns.
 #[derive(Drop)]
-pub(crate) struct Walk {
+pub struct Walk {
     core: Core,
     // where the call of each task stands, as the core would tell it
     phases: Vec<Option<Phase>>,
@@ -65,7 +65,8 @@ impl Model for Walk {
 }
 
 impl Walk {
-    pub(crate) fn new(alloc: Global, script: &Script, seed: u64) -> Result<Walk, AllocError>
+    /// Before the first turn, with the generator that is seeded so.
+    pub fn new(alloc: Global, script: &Script, seed: u64) -> Result<Walk, AllocError>
         ensures { IfOk result (λ walk. IsStart script.now seed walk) }
     {
         let config = script.config;
@@ -88,8 +89,9 @@ impl Walk {
         self.phases[task as usize - 1]
     }
 
+    /// Whether the task has a call in flight.
     #[inline(always)]
-    fn in_call(&self, task: u32) -> bool
+    pub fn in_call(&self, task: u32) -> bool
         requires { (1 ≤ task) × (task ≤ length self.now.made) }
         ensures { result ≡ in_call self.now task }
     {
@@ -106,8 +108,9 @@ impl Walk {
         self.core.waits_for(Task::new(task)).is_none()
     }
 
+    /// The call that the task makes next, if it has one left.
     #[inline(always)]
-    fn next_call(&self, plan: &Plan, task: u32) -> Option<Op>
+    pub fn next_call(&self, plan: &Plan, task: u32) -> Option<Op>
         requires { (1 ≤ task) × (task ≤ length self.now.made) }
         ensures call { result ≡ next_call plan.now self.now.made task }
         ensures more { IsSome result → slice_index self.now.made (task - 1) + 1 < 2 ^ 64 }
@@ -162,7 +165,7 @@ impl Walk {
 
     /// Whether the task may take a turn.
     #[inline(always)]
-    fn can_turn(&self, plan: &Plan, task: u32) -> bool
+    pub fn can_turn(&self, plan: &Plan, task: u32) -> bool
         requires { (1 ≤ task) × (task ≤ length self.now.made) }
         ensures can { result ≡ true → CanTurn plan.now self.now task }
         ensures cannot { result ≡ false → ¬ CanTurn plan.now self.now task }
@@ -216,7 +219,7 @@ impl Walk {
         }
         if !self.in_call(task) {
             if let Some(op) = self.next_call(plan, task) {
-                self.made[task as usize - 1] += 1;
+                self.count_begun(task);
                 return Event::Begin(Task::new(task), op);
             }
         }
@@ -224,8 +227,19 @@ impl Walk {
         Event::Step(Task::new(task), granted)
     }
 
+    /// One call more of the task's is begun.
     #[inline(always)]
-    fn is_alive(&self, task: u32) -> bool
+    pub fn count_begun(&mut self, task: u32)
+        requires task { (1 ≤ task) × (task ≤ length self.old.made) }
+        requires fits { slice_index self.old.made (task - 1) + 1 < 2 ^ 64 }
+        ensures { self.new ≡ record self.old { made = slice_set self.old.made (task - 1) (slice_index self.old.made (task - 1) + 1) } }
+    {
+        self.made[task as usize - 1] += 1;
+    }
+
+    /// Whether the task is alive.
+    #[inline(always)]
+    pub fn is_alive(&self, task: u32) -> bool
         requires { (1 ≤ task) × (task ≤ length self.now.made) }
         ensures { result ≡ is_alive (life_of self.now.core task) }
     {
@@ -274,6 +288,22 @@ impl Walk {
         Ok(Turned { event, outcome })
     }
 
+    /// Makes an event, which is one of this task alone. It isn't counted as a turn.
+    #[inline(always)]
+    pub fn play(&mut self, event: &Event, task: u32) -> Result<Outcome, AllocError>
+        requires task { (1 ≤ task) × (task ≤ length self.old.made) }
+        requires alone { (u : ℕ) → IsOf u event.now → u ≡ task }
+        ensures row { IfOk result (λ outcome. Row self.old.core event.now outcome self.new.core) }
+        ensures stays { OnOk result (self.new ≡ record self.old { core = self.new.core }) }
+    {
+        // The checker of borrows asks for a mention of the type that an outcome may hold.
+        let _none: Option<Answer> = None;
+        self.core.is_reached();
+        let outcome = self.core.step(*event)?;
+        self.phases[task as usize - 1] = phase_after(&self.core, Task::new(task), &outcome);
+        Ok(outcome)
+    }
+
     /// Makes the turn's event, which is one of this task alone.
     #[inline(always)]
     fn make(&mut self, event: &Event, task: u32) -> Result<Outcome, AllocError>
@@ -285,11 +315,7 @@ impl Walk {
         ensures made { OnOk result (self.new.made ≡ self.old.made) }
         ensures rng { OnOk result (self.new.rng ≡ self.old.rng) }
     {
-        // The checker of borrows asks for a mention of the type that an outcome may hold.
-        let _none: Option<Answer> = None;
-        self.core.is_reached();
-        let outcome = self.core.step(*event)?;
-        self.phases[task as usize - 1] = phase_after(&self.core, Task::new(task), &outcome);
+        let outcome = self.play(event, task)?;
         self.turns += 1;
         Ok(outcome)
     }
@@ -319,9 +345,18 @@ impl Walk {
         Ok(Some(turned))
     }
 
+    /// How many of its calls each task has begun, from task 1 on.
+    pub fn made(&self) -> &[usize]
+        ensures made { result.now ≡ self.now.made }
+        ensures few { length result.now ≤ 64 }
+    {
+        &self.made
+    }
+
     /// The core between the turns.
-    pub(crate) fn core(&self) -> &Core
-        ensures { result.now ≡ self.now.core }
+    pub fn core(&self) -> &Core
+        ensures core { result.now ≡ self.now.core }
+        ensures tasks { (config_of result.now).tasks ≡ length self.now.made }
     {
         &self.core
     }

@@ -8,7 +8,7 @@ use Rattle.hp_base.specs.declared.event.Event.TheVariants.{Begin, Step, Kill, Re
 use Rattle.hp_machine.specs.declared.outcome.Outcome.{Outcome}
 use Rattle.hp_machine.specs.declared.outcome.Outcome.TheVariants.{Begun, Moved, Blocked, Ended, Marked, Resized, Refused}
 use Rattle.hp_core.specs.State.{CoreState}
-use Rattle.hp_core.specs.Readers.{free_of, phase_of, resv_of, used_of}
+use Rattle.hp_core.specs.Readers.{calls_of, free_of, phase_of, resv_of, used_of}
 use Rattle.hp_core.specs.Waiting.{WaitsFor}
 use Rattle.hp_watch.specs.Moments.{Moment, IsRunOf, Once, last_of}
 use Rattle.hp_hunt.specs.declared.condition.AnswerWord.{AnswerWord}
@@ -16,7 +16,7 @@ use Rattle.hp_hunt.specs.declared.condition.AnswerWord.TheVariants as word
 use Rattle.hp_hunt.specs.declared.condition.Condition.{Condition}
 use Rattle.hp_hunt.specs.declared.condition.Condition.TheVariants as condition
 use Rattle.hp_hunt.specs.declared.condition.PoolCount.{PoolCount}
-use Rattle.hp_hunt.specs.declared.condition.PoolCount.TheVariants.{Resv, Free, Used}
+use Rattle.hp_hunt.specs.declared.condition.PoolCount.TheVariants.{Resv, Free, Used, Calls}
 
 -- the first word of an answer
 abbrev pub word_of : Answer → AnswerWord
@@ -40,6 +40,7 @@ abbrev pub count_of : PoolCount → CoreState → ℕ
 count_of Resv core = resv_of core
 count_of Free core = free_of core
 count_of Used core = used_of core
+count_of Calls core = calls_of core
 
 -- the event asks for a call of the task
 abbrev pub is_begin : (task : ℕ) → Event → Bool

@@ -5,7 +5,7 @@ ghost use Rattle.hp_hunt.specs.Conditions.{SomeRunMeets};
 ghost use Rattle.hp_hunt.specs.Cutting.{IsSubsequence};
 
 use crate::condition::Condition;
-use crate::cutting::keep_if_met;
+use crate::cutting::{Shrinking, keep_if_met};
 use hp_base::{Config, Event, Task};
 use std::alloc::{AllocError, Global};
 
@@ -64,6 +64,7 @@ pub(crate) fn cut_tasks(
     config: Config,
     events: &mut Vec<Event>,
     conditions: &[Condition],
+    watcher: &mut impl Shrinking,
 ) -> Result<(), AllocError>
     requires { SomeRunMeets config events.old.items conditions.now }
     ensures left { OnOk result (IsSubsequence events.new.items events.old.items) }
@@ -72,7 +73,7 @@ pub(crate) fn cut_tasks(
     for number in 0..config.tasks {
         let task = Task::new(number + 1);
         let left = without_task(alloc, events.as_slice(), task, 0, events.len())?;
-        keep_if_met(alloc, config, events, left, conditions)?;
+        keep_if_met(alloc, config, events, left, conditions, watcher)?;
     }
     Ok(())
 }
@@ -84,6 +85,7 @@ fn try_call(
     events: &mut Vec<Event>,
     place: usize,
     conditions: &[Condition],
+    watcher: &mut impl Shrinking,
 ) -> Result<(), AllocError>
     requires { SomeRunMeets config events.old.items conditions.now }
     ensures left { OnOk result (IsSubsequence events.new.items events.old.items) }
@@ -94,7 +96,7 @@ fn try_call(
     };
     let to = next_begin(events.as_slice(), place.saturating_add(1), task);
     let left = without_task(alloc, events.as_slice(), task, place, to)?;
-    keep_if_met(alloc, config, events, left, conditions)?;
+    keep_if_met(alloc, config, events, left, conditions, watcher)?;
     Ok(())
 }
 
@@ -104,6 +106,7 @@ pub(crate) fn cut_calls(
     config: Config,
     events: &mut Vec<Event>,
     conditions: &[Condition],
+    watcher: &mut impl Shrinking,
 ) -> Result<(), AllocError>
     requires { SomeRunMeets config events.old.items conditions.now }
     ensures left { OnOk result (IsSubsequence events.new.items events.old.items) }
@@ -112,7 +115,7 @@ pub(crate) fn cut_calls(
     let mut place = events.len();
     while place > 0 {
         place -= 1;
-        try_call(alloc, config, events, place, conditions)?;
+        try_call(alloc, config, events, place, conditions, watcher)?;
     }
     Ok(())
 }

@@ -33,6 +33,8 @@ pub enum PoolCount {
     Free,
     /// The used count.
     Used,
+    /// Calls in flight.
+    Calls,
 }
 
 /// What a run may be asked for. Of a task that the pool doesn't have nothing is met.
@@ -92,5 +94,6 @@ pub(crate) fn count_of(core: &Core, count: PoolCount) -> u32
         PoolCount::Resv => core.resv(),
         PoolCount::Free => core.free(),
         PoolCount::Used => core.used(),
+        PoolCount::Calls => core.calls(),
     }
 }

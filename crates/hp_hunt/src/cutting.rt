@@ -26,6 +26,12 @@ fn without(
     Ok(left)
 }
 
+/// Who watches how a trace becomes smaller.
+pub trait Shrinking {
+    /// So many events are left.
+    fn left(&mut self, events: usize);
+}
+
 /// Takes what is left in the place of the events where a run of it meets the conditions. Tells whether one does.
 pub(crate) fn keep_if_met(
     alloc: Global,
@@ -33,6 +39,7 @@ pub(crate) fn keep_if_met(
     events: &mut Vec<Event>,
     left: Vec<Event>,
     conditions: &[Condition],
+    watcher: &mut impl Shrinking,
 ) -> Result<bool, AllocError>
     ensures taken { IfOk result (λ met. met ≡ true → (events.new.items ≡ left.items)
         × SomeRunMeets config left.items conditions.now) }
@@ -43,6 +50,7 @@ pub(crate) fn keep_if_met(
     if met {
         *events = left;
     }
+    watcher.left(events.len());
     Ok(met)
 }
 
@@ -54,6 +62,7 @@ fn try_cut(
     from: usize,
     len: usize,
     conditions: &[Condition],
+    watcher: &mut impl Shrinking,
 ) -> Result<bool, AllocError>
     requires { from + len ≤ length events.old.items }
     ensures dropped { IfOk result (λ done. done ≡ true → (events.new.items ≡ cut events.old.items from len)
@@ -62,7 +71,7 @@ fn try_cut(
         × SomeRunMisses config (cut events.old.items from len) conditions.now) }
 {
     let left = without(alloc, events.as_slice(), from, len)?;
-    keep_if_met(alloc, config, events, left, conditions)
+    keep_if_met(alloc, config, events, left, conditions, watcher)
 }
 
 /// Goes once over the events, from the last on, and drops each chunk of so many that can go.
@@ -72,6 +81,7 @@ fn cut_chunks(
     events: &mut Vec<Event>,
     chunk: usize,
     conditions: &[Condition],
+    watcher: &mut impl Shrinking,
 ) -> Result<(), AllocError>
     requires some { 0 < chunk }
     requires meets { SomeRunMeets config events.old.items conditions.now }
@@ -81,7 +91,15 @@ fn cut_chunks(
     let mut place = events.len();
     while place > 0 {
         let from = place.saturating_sub(chunk);
-        try_cut(alloc, config, events, from, place - from, conditions)?;
+        try_cut(
+            alloc,
+            config,
+            events,
+            from,
+            place - from,
+            conditions,
+            watcher,
+        )?;
         place = from;
     }
     Ok(())
@@ -93,6 +111,7 @@ fn cut_halves(
     config: Config,
     events: &mut Vec<Event>,
     conditions: &[Condition],
+    watcher: &mut impl Shrinking,
 ) -> Result<(), AllocError>
     requires { SomeRunMeets config events.old.items conditions.now }
     ensures left { OnOk result (IsSubsequence events.new.items events.old.items) }
@@ -100,7 +119,7 @@ fn cut_halves(
 {
     let mut chunk = events.len() / 2;
     while chunk > 1 {
-        cut_chunks(alloc, config, events, chunk, conditions)?;
+        cut_chunks(alloc, config, events, chunk, conditions, watcher)?;
         chunk /= 2;
     }
     Ok(())
@@ -112,6 +131,7 @@ fn cut_each(
     config: Config,
     events: &mut Vec<Event>,
     conditions: &[Condition],
+    watcher: &mut impl Shrinking,
 ) -> Result<bool, AllocError>
     requires { SomeRunMeets config events.old.items conditions.now }
     ensures left { IfOk result (λ done. IsSubsequence events.new.items events.old.items) }
@@ -124,7 +144,7 @@ fn cut_each(
     let mut place = events.len();
     while place > 0 {
         place -= 1;
-        if try_cut(alloc, config, events, place, 1, conditions)? {
+        if try_cut(alloc, config, events, place, 1, conditions, watcher)? {
             done = true;
         }
     }
@@ -137,13 +157,14 @@ pub(crate) fn cut_all(
     config: Config,
     events: &mut Vec<Event>,
     conditions: &[Condition],
+    watcher: &mut impl Shrinking,
 ) -> Result<(), AllocError>
     requires { SomeRunMeets config events.old.items conditions.now }
     ensures { OnOk result (IsCut config events.old.items conditions.now events.new.items) }
 {
-    cut_tasks(alloc, config, events, conditions)?;
-    cut_halves(alloc, config, events, conditions)?;
-    cut_calls(alloc, config, events, conditions)?;
-    while cut_each(alloc, config, events, conditions)? {}
+    cut_tasks(alloc, config, events, conditions, watcher)?;
+    cut_halves(alloc, config, events, conditions, watcher)?;
+    cut_calls(alloc, config, events, conditions, watcher)?;
+    while cut_each(alloc, config, events, conditions, watcher)? {}
     Ok(())
 }

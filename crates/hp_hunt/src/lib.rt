@@ -17,6 +17,8 @@ mod numbers;
 mod watching;
 
 pub use condition::{AnswerWord, Condition, PoolCount};
+pub use cutting::Shrinking;
 pub use finding::{Found, Hunt, find};
 pub use meeting::meets;
 pub use minimizing::minimize;
+pub use watching::{Watch, are_met, see_all, watch_all};

@@ -5,7 +5,7 @@ ghost use Rattle.hp_hunt.specs.Lowering.{IsLowest, sum_of};
 ghost use Rattle.hp_hunt.specs.Numbers.{IsLeft, number_at, with_number};
 
 use crate::condition::Condition;
-use crate::cutting::keep_if_met;
+use crate::cutting::{Shrinking, keep_if_met};
 use crate::numbers::{Which, number_of, replaced};
 use hp_base::{Config, Event};
 use std::alloc::{AllocError, Global};
@@ -44,6 +44,7 @@ fn try_number(
     which: Which,
     number: u64,
     conditions: &[Condition],
+    watcher: &mut impl Shrinking,
 ) -> Result<bool, AllocError>
     requires there { place < length events.old.items }
     requires smaller { number ≤ number_at events.old.items place which }
@@ -53,7 +54,7 @@ fn try_number(
         × SomeRunMisses config (with_number events.old.items place which number) conditions.now) }
 {
     let lowered = with_number(alloc, events.as_slice(), place, which, number)?;
-    keep_if_met(alloc, config, events, lowered, conditions)
+    keep_if_met(alloc, config, events, lowered, conditions, watcher)
 }
 
 /// Makes the number as small as may be, by steps that are halved where one is too large: then one less is too small. Tells whether it is
@@ -65,6 +66,7 @@ fn lower_number(
     place: usize,
     which: Which,
     conditions: &[Condition],
+    watcher: &mut impl Shrinking,
 ) -> Result<bool, AllocError>
     requires there { place < length events.old.items }
     requires meets { SomeRunMeets config events.old.items conditions.now }
@@ -79,7 +81,9 @@ fn lower_number(
     let mut step = number_at(events, place, which);
     while step > 0 {
         let number = number_at(events, place, which) - step;
-        if try_number(alloc, config, events, place, which, number, conditions)? {
+        if try_number(
+            alloc, config, events, place, which, number, conditions, watcher,
+        )? {
             done = true;
             step = step.min(number);
         } else {
@@ -96,6 +100,7 @@ fn lower_event(
     events: &mut Vec<Event>,
     place: usize,
     conditions: &[Condition],
+    watcher: &mut impl Shrinking,
 ) -> Result<bool, AllocError>
     requires there { place < length events.old.items }
     requires meets { SomeRunMeets config events.old.items conditions.now }
@@ -107,9 +112,33 @@ fn lower_event(
     ensures lowest { IfOk result (λ done. done ≡ false
         → (which : Which) → IsLowest config conditions.now events.new.items place which) }
 {
-    let first = lower_number(alloc, config, events, place, Which::First, conditions)?;
-    let second = lower_number(alloc, config, events, place, Which::Second, conditions)?;
-    let third = lower_number(alloc, config, events, place, Which::Third, conditions)?;
+    let first = lower_number(
+        alloc,
+        config,
+        events,
+        place,
+        Which::First,
+        conditions,
+        watcher,
+    )?;
+    let second = lower_number(
+        alloc,
+        config,
+        events,
+        place,
+        Which::Second,
+        conditions,
+        watcher,
+    )?;
+    let third = lower_number(
+        alloc,
+        config,
+        events,
+        place,
+        Which::Third,
+        conditions,
+        watcher,
+    )?;
     Ok(first || second || third)
 }
 
@@ -119,6 +148,7 @@ pub(crate) fn lower_each(
     config: Config,
     events: &mut Vec<Event>,
     conditions: &[Condition],
+    watcher: &mut impl Shrinking,
 ) -> Result<bool, AllocError>
     requires { SomeRunMeets config events.old.items conditions.now }
     ensures left { IfOk result (λ done. IsLeft events.new.items events.old.items) }
@@ -132,7 +162,7 @@ pub(crate) fn lower_each(
     let mut place = events.len();
     while place > 0 {
         place -= 1;
-        if lower_event(alloc, config, events, place, conditions)? {
+        if lower_event(alloc, config, events, place, conditions, watcher)? {
             done = true;
         }
     }

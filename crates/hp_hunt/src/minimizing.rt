@@ -5,7 +5,7 @@ ghost use Rattle.hp_hunt.specs.Conditions.{SomeRunMeets, SomeRunMisses};
 ghost use Rattle.hp_hunt.specs.Cutting.{IsSmall};
 
 use crate::condition::Condition;
-use crate::cutting::cut_all;
+use crate::cutting::{Shrinking, cut_all};
 use crate::lowering::lower_each;
 use crate::meeting::meets;
 use hp_base::{Config, Event};
@@ -18,23 +18,26 @@ fn make_small(
     config: Config,
     events: &mut Vec<Event>,
     conditions: &[Condition],
+    watcher: &mut impl Shrinking,
 ) -> Result<(), AllocError>
     requires { SomeRunMeets config events.old.items conditions.now }
     ensures { OnOk result (IsSmall config events.old.items conditions.now events.new.items) }
 {
-    cut_all(alloc, config, events, conditions)?;
-    while lower_each(alloc, config, events, conditions)? {
-        cut_all(alloc, config, events, conditions)?;
+    cut_all(alloc, config, events, conditions, watcher)?;
+    while lower_each(alloc, config, events, conditions, watcher)? {
+        cut_all(alloc, config, events, conditions, watcher)?;
     }
     Ok(())
 }
 
 /// What is left of the trace where events are dropped, and their numbers made smaller, as long as a run of them still meets all
-/// conditions, or nothing where the trace's run doesn't. The pool and the numbers of tasks stay as they are.
+/// conditions, or nothing where the trace's run doesn't. The pool and the numbers of tasks stay as they are. After each try it tells how
+/// many events are left.
 pub fn minimize(
     alloc: Global,
     trace: &Trace,
     conditions: &[Condition],
+    watcher: &mut impl Shrinking,
 ) -> Result<Option<Trace>, ReplayFault>
     ensures small { IfOk result (λ result. IfSome result (λ small.
         IsSmall trace.now.config trace.now.events.items conditions.now small.events.items)) }
@@ -49,6 +52,6 @@ pub fn minimize(
         return Ok(None);
     }
     let mut events = events.to_vec(alloc)?;
-    make_small(alloc, config, &mut events, conditions)?;
+    make_small(alloc, config, &mut events, conditions, watcher)?;
     Ok(Some(Trace { config, events }))
 }

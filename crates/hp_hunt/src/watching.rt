@@ -51,7 +51,7 @@ fn ends_with(outcome: &Outcome, word: AnswerWord) -> bool
 
 /// Looks for one condition, moment by moment.
 #[derive(Clone, Copy, Debug)]
-pub(crate) struct Watch {
+pub struct Watch {
     condition: Condition,
     // how many calls the condition's task has begun, up to one more than it asks for
     begun: u64,
@@ -112,6 +112,20 @@ impl Watch {
         }
     }
 
+    /// How many calls it has counted.
+    pub fn begun(&self) -> u64
+        ensures { result ≡ self.now.begun }
+    {
+        self.begun
+    }
+
+    /// Whether its condition was met at a moment.
+    pub fn is_seen(&self) -> bool
+        ensures { result ≡ self.now.seen }
+    {
+        self.seen
+    }
+
     /// One moment more: this event came, with this outcome, and led to that core.
     fn see(&mut self, event: &Event, outcome: &Outcome, core: &Core)
         ensures condition { self.new.condition ≡ self.old.condition }
@@ -138,7 +152,7 @@ impl Watch {
 }
 
 /// A watch for each condition.
-pub(crate) fn watch_all(alloc: Global, conditions: &[Condition]) -> Result<Vec<Watch>, AllocError>
+pub fn watch_all(alloc: Global, conditions: &[Condition]) -> Result<Vec<Watch>, AllocError>
     ensures { IfOk result (λ watches. AllKnow conditions.now watches.items []) }
 {
     let mut watches = Vec::new(alloc);
@@ -150,7 +164,7 @@ pub(crate) fn watch_all(alloc: Global, conditions: &[Condition]) -> Result<Vec<W
 
 /// One moment more, for all watches.
 #[inline(always)]
-pub(crate) fn see_all(watches: &mut Vec<Watch>, event: &Event, outcome: &Outcome, core: &Core)
+pub fn see_all(watches: &mut Vec<Watch>, event: &Event, outcome: &Outcome, core: &Core)
     ensures { (conditions : List Condition) (before : List Moment) → AllKnow conditions watches.old.items before
         → AllKnow conditions watches.new.items (record { event = event.now; outcome = outcome.now; core = core.now } ∷ before) }
 {
@@ -160,7 +174,7 @@ pub(crate) fn see_all(watches: &mut Vec<Watch>, event: &Event, outcome: &Outcome
 }
 
 /// Whether all conditions are met by a run that ends here.
-pub(crate) fn are_met(watches: &[Watch], core: &Core) -> bool
+pub fn are_met(watches: &[Watch], core: &Core) -> bool
     ensures met { result ≡ true → (conditions : List Condition) (first : CoreState) (moments : List Moment)
         → core.now ≡ last_of first moments → AllKnow conditions watches.now moments → MeetsAll conditions first moments }
     ensures missed { result ≡ false → (conditions : List Condition) (first : CoreState) (moments : List Moment)

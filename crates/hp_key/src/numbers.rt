@@ -11,7 +11,7 @@ use std::alloc::AllocError;
 const WORDS: u64 = 1 << 32;
 
 /// A number of 64 bits: the lower half, and then the upper one.
-pub(crate) fn push_wide(words: &mut Vec<u32>, number: u64) -> Result<(), AllocError>
+pub fn push_wide(words: &mut Vec<u32>, number: u64) -> Result<(), AllocError>
     ensures { OnOk result (words.new.items ≡ words.old.items ++ wide number) }
 {
     words.push((number % WORDS) as u32)?;

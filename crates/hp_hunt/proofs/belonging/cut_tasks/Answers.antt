@@ -4,10 +4,10 @@ use Rattle.hp_hunt.proofs.Cuts.{all_left, kept_left, kept_meets}
 use Rattle.hp_hunt.proofs.belonging.cut_tasks.Goals as goal
 
 pub loop-number-init : goal.loop-number-init
-loop-number-init c = record { left = all_left c.args.events.now.items; meets = c.requires }
+loop-number-init g c = record { left = all_left c.args.events.now.items; meets = c.requires }
 
 pub loop-number-preserved : goal.loop-number-preserved
-loop-number-preserved c =
+loop-number-preserved g c =
     let mid = c.loop-number.events.items in
     let left = c.in_ok-left.left.items in
     let new = c.keep_if_met.new.events.items in

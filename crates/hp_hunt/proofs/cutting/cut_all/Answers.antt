@@ -2,7 +2,7 @@ use Rattle.hp_hunt.proofs.Cuts.{left_of_left}
 use Rattle.hp_hunt.proofs.cutting.cut_all.Goals as goal
 
 pub loop-init : goal.loop-init
-loop-init c =
+loop-init g c =
     let first = c.args.events.now.items in
     let second = c.cut_tasks.new.events.items in
     let third = c.cut_halves.new.events.items in
@@ -13,14 +13,14 @@ loop-init c =
     }
 
 pub loop-preserved : goal.loop-preserved
-loop-preserved c = record {
+loop-preserved g c = record {
   left = left_of_left c.cut_each.new.events.items c.loop.events.items c.args.events.now.items c.in_ok-cut_each.ensures.left
       c.loop.invariant.left;
   meets = c.in_ok-cut_each.ensures.meets;
 }
 
 pub returns : goal.returns
-returns c = record {
+returns g c = record {
   some = left_of_left c.cut_each.new.events.items c.loop.events.items c.args.events.now.items c.in_ok-cut_each.ensures.left
       c.loop.invariant.left;
   meets = c.in_ok-cut_each.ensures.meets;

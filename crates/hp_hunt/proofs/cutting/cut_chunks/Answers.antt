@@ -3,10 +3,10 @@ use Rattle.hp_hunt.proofs.Cuts.{all_left, step_left, step_meets, step_within}
 use Rattle.hp_hunt.proofs.cutting.cut_chunks.Goals as goal
 
 pub loop-place-init : goal.loop-place-init
-loop-place-init c = record { within = omega (arith, c.len-place.ensures); left = all_left c.args.events.now.items; meets = c.requires.meets }
+loop-place-init g c = record { within = omega (arith, c.len-place.ensures); left = all_left c.args.events.now.items; meets = c.requires.meets }
 
 pub loop-place-preserved : goal.loop-place-preserved
-loop-place-preserved c =
+loop-place-preserved g c =
     let mid = c.loop-place.events.items in
     let new = c.try_cut.new.events.items in
     let from = c.saturating_sub-from.result in

@@ -4,7 +4,7 @@ use Rattle.hp_hunt.proofs.Cuts.{all_left, cut_length, step_left}
 use Rattle.hp_hunt.proofs.cutting.cut_each.Goals as goal
 
 pub loop-place-init : goal.loop-place-init
-loop-place-init c = record {
+loop-place-init g c = record {
   within = omega (arith, c.len-place.ensures);
   left = all_left c.args.events.now.items;
   meets = c.requires;
@@ -15,7 +15,7 @@ loop-place-init c = record {
 
 -- an event went
 pub loop-place-preserved-then-branch : goal.loop-place-preserved-then-branch
-loop-place-preserved-then-branch c =
+loop-place-preserved-then-branch g c =
     let mid = c.loop-place.events.items in
     let new = c.try_cut.new.events.items in
     let from = c.loop-place.place - 1 in

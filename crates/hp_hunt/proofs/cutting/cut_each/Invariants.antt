@@ -6,7 +6,7 @@ use Rattle.hp_hunt.specs.Cutting.{IsSubsequence, cut}
 use Rattle.hp_hunt.proofs.cutting.cut_each.Given as goal
 
 abbrev pub invariant-loop-place : goal.invariant-loop-place
-invariant-loop-place l = record {
+invariant-loop-place g l = record {
   within : l.place ≤ length l.events.items;
   left : IsSubsequence l.events.items l.fn.events.items;
   meets : SomeRunMeets l.config l.events.items l.conditions;
@@ -17,4 +17,4 @@ invariant-loop-place l = record {
 }
 
 abbrev pub decreases-loop-place : goal.decreases-loop-place
-decreases-loop-place l = l.place
+decreases-loop-place g l = l.place

@@ -6,7 +6,7 @@ use Rattle.hp_hunt.proofs.Lefts.{left_left, left_self, number_past, sum_left}
 use Rattle.hp_hunt.proofs.lowering.lower_each.Goals as goal
 
 pub loop-place-init : goal.loop-place-init
-loop-place-init c = record {
+loop-place-init g c = record {
   within = omega (arith, c.len-place.ensures);
   count = omega arith;
   left = left_self c.args.events.now.items;
@@ -17,7 +17,7 @@ loop-place-init c = record {
 }
 
 pub loop-place-preserved-then-branch : goal.loop-place-preserved-then-branch
-loop-place-preserved-then-branch c =
+loop-place-preserved-then-branch g c =
     let old = c.args.events.now.items in
     let mid = c.loop-place.events.items in
     let new = c.lower_event.new.events.items in
@@ -34,7 +34,7 @@ loop-place-preserved-then-branch c =
     }
 
 pub loop-place-preserved : goal.loop-place-preserved
-loop-place-preserved c =
+loop-place-preserved g c =
     let old = c.args.events.now.items in
     let mid = c.loop-place.events.items in
     let new = c.lower_event.new.events.items in
@@ -57,7 +57,7 @@ loop-place-preserved c =
     }
 
 pub returns-clause-lowest : goal.returns-clause-lowest
-returns-clause-lowest c = λ is place which lt.
+returns-clause-lowest g c = λ is place which lt.
     let events = c.loop-place.events.items in
     c.loop-place.invariant.lowest is place which (omega (arith, c.loop-place-test.false))
     (grind (arith, lt, number_past events place which)) lt

@@ -8,7 +8,7 @@ use Rattle.hp_hunt.specs.declared.numbers.Which.{Which}
 use Rattle.hp_hunt.proofs.lowering.lower_each.Given as goal
 
 abbrev pub invariant-loop-place : goal.invariant-loop-place
-invariant-loop-place l = record {
+invariant-loop-place g l = record {
   within : l.place ≤ length l.events.items;
   count : length l.events.items ≡ length l.fn.events.items;
   left : IsLeft l.events.items l.fn.events.items;
@@ -20,4 +20,4 @@ invariant-loop-place l = record {
 }
 
 abbrev pub decreases-loop-place : goal.decreases-loop-place
-decreases-loop-place l = l.place
+decreases-loop-place g l = l.place

@@ -7,7 +7,7 @@ use Rattle.hp_hunt.proofs.Lefts.{left_left, left_self, number_count, number_left
 use Rattle.hp_hunt.proofs.lowering.lower_number.Goals as goal
 
 pub loop-step-init : goal.loop-step-init
-loop-step-init c =
+loop-step-init g c =
     let now : c.number_at-step.result ≡ number_at c.args.events.now.items c.args.place c.args.which =
     c.number_at-step.ensures ∙ ap (λ (x : List Event). number_at x c.args.place c.args.which) c.deref.ensures.value in
     record {
@@ -21,7 +21,7 @@ loop-step-init c =
     }
 
 pub loop-step-preserved-then-branch : goal.loop-step-preserved-then-branch
-loop-step-preserved-then-branch c =
+loop-step-preserved-then-branch g c =
     let old = c.args.events.now.items in
     let mid = c.loop-step.events.items in
     let new = c.try_number.new.events.items in

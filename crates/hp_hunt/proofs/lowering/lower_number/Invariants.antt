@@ -7,7 +7,7 @@ use Rattle.hp_hunt.specs.Numbers.{IsLeft, number_at}
 use Rattle.hp_hunt.proofs.lowering.lower_number.Given as goal
 
 abbrev pub invariant-loop-step : goal.invariant-loop-step
-invariant-loop-step l = record {
+invariant-loop-step g l = record {
   count : length l.events.items ≡ length l.fn.events.items;
   left : IsLeft l.events.items l.fn.events.items;
   meets : SomeRunMeets l.config l.events.items l.conditions;
@@ -18,4 +18,4 @@ invariant-loop-step l = record {
 }
 
 abbrev pub decreases-loop-step : goal.decreases-loop-step
-decreases-loop-step l = sum_of l.events.items + l.step
+decreases-loop-step g l = sum_of l.events.items + l.step
