@@ -119,10 +119,10 @@ pub record IsCrowded {S K : Type 0} (eq : K → K → Bool) (key_of : S → K) (
   pub behind : AreReached eq key_of turn first turns others
   pub many : limit < length some + length others
 
--- a search is cut where it has made as many turns as the limit, or where there are too many states
+-- a search is cut where it has made as many turns as the limit, or where there are too many states; what it finds is found in fewer turns
 unfoldable pub IsCutAtLimits : {S K : Type 0} → (eq : K → K → Bool) → (key_of : S → K) → (turn : S → S → Type 0) → (first : S) → Limits
     → Verdict S → Type 0
 IsCutAtLimits eq key_of turn first limits Never = Unit {0}
-IsCutAtLimits eq key_of turn first limits (Met s turns) = Unit {0}
+IsCutAtLimits eq key_of turn first limits (Met s turns) = turns < limits.turns
 IsCutAtLimits eq key_of turn first limits (Cut turns) =
     (turns ≡ limits.turns) ⊎ IsCrowded eq key_of turn first limits.states turns

@@ -50,7 +50,7 @@ returns-in-Some g c =
           c.loop-turns.invariant.1
           (subst (λ (l : List _). MeetsAt meets l c.in-Some.place) c.deref.ensures.value c.in-Some.ensures.met)
           c.swap_remove-state.ensures.value;
-      cut = tt;
+      cut = c.loop-turns-test.true;
     }
 
 -- none is met within this layer either
