@@ -69,7 +69,7 @@ state_wants s n t h wants =
     (some_wants (λ c. Wants s.pool t c) (λ c. Wants (renamed h.0 s).pool t c) (call_renamed h.0.to) (s.calls t) (wants_there s h.0 t) wants)
 
 -- twins look alike
-twins_look : (p q : Place) → Twins (as_state p.core) (as_state q.core) → AreAlike p q → LooksAlike p q
+pub twins_look : (p q : Place) → Twins (as_state p.core) (as_state q.core) → AreAlike p q → LooksAlike p q
 unfolding phase_of life_of calls_of
 twins_look p q twins h = record {
   calls = λ t. still_some word_of ((as_state q.core).calls t)

@@ -1,6 +1,6 @@
 -- Where a run of an explorer finishes no turn may be made.
-use Rattle.std.proofs.Common.{◌≡◌, ℕ, zero, suc, ◌+◌, ◌≤◌, ◌<◌, ap, sym, ◌∙◌, subst, refl, inl, inr, arith, List, [], ◌∷◌, length}
-use Rattle.std.specs.Prelude.{Bool, true, false, not, ◌&&◌, Option, Some, is_none, if◌then◌else◌}
+use Rattle.std.proofs.Common.{◌≡◌, ℕ, zero, suc, ◌+◌, ◌≤◌, ◌<◌, sym, subst, refl, inl, inr, arith, List, [], ◌∷◌, length}
+use Rattle.std.specs.Prelude.{Bool, true, false, not, ◌&&◌, Option, None, Some, MatchBool, is_none, is_some, if◌then◌else◌}
 use Rattle.std.specs.List.{list_all, range_with_len}
 use Rattle.std.proofs.lemmas.Bool.{cases_lt}
 use Rattle.hp_base.specs.declared.event.Op.{Op}
@@ -8,6 +8,7 @@ use Rattle.hp_laws.proofs.Deciding.{clash, never}
 use Rattle.hp_explore.specs.Schedule.{Plan, World, next_call, in_call}
 use Rattle.hp_explore.specs.Explored.{all_done, idle_finish, is_done, last_finish}
 use Rattle.hp_explore.specs.declared.line.Finish.TheVariants.{Finished, Stuck}
+use Rattle.hp_every.specs.declared.turn.Turn.TheVariants as turn
 use Rattle.hp_every.specs.Schedules.{Ends, Place, world}
 
 -- of two tests that both pass
@@ -28,26 +29,37 @@ in_range p from (suc n) h t low high = elim (cases_lt from t) [
       subst (λ (k : ℕ). p k ≡ true) (sym is) (first_true _ _ h))
 ]
 
--- a call isn't both left and not left
-none_left : {P : Type 0} (o : Option Op) (op : Op) → o ≡ Some op → is_none o ≡ true → P
-none_left o op some none = never (sym (ap (λ (x : Option Op). is_none x) some) ∙ none)
-
 -- a task isn't both busy and done
 not_busy : {P : Type 0} (busy : Bool) → busy ≡ true → not busy ≡ true → P
 not_busy true e d = never d
 not_busy false e d = never e
 
+-- a task without a call in flight and without one left begins none
+none_begins : {P : Type 0} (o : Option Op) (b : Bool) → is_none o ≡ true → (is_some o && b) ≡ true → P
+none_begins None b none begins = never begins
+none_begins (Some op) b none begins = never none
+
+idle_turns : (P Q R : Type 0) (busy : Bool) → busy ≡ false → (Q → R) → MatchBool busy P Q → R
+idle_turns P Q R false e on h = on h
+idle_turns P Q R true e on h = never (sym e)
+
+idle : (busy : Bool) → not busy ≡ true → busy ≡ false
+idle false e = refl
+idle true e = never e
+
 -- where all tasks are done no turn may be made
 pub done_ends : (plan : Plan) (p : Place) → all_done plan (world p) ≡ true → Ends plan p
-done_ends plan p all event outcome q turn = elim turn.choice [
-  | inl c ↦ none_left (next_call plan p.made turn.task) c.op c.next (second_true _ _ done)
-  | inr (inl c) ↦ not_busy (in_call (world p) turn.task) c.busy (first_true _ _ done)
-  | inr (inr (inl c)) ↦ not_busy (in_call (world p) turn.task) c.busy (first_true _ _ done)
-  | inr (inr (inr c)) ↦ clash (is_done plan (world p) turn.task) done c.more
-]
+done_ends plan p all = by
   where
-    done : is_done plan (world p) turn.task ≡ true
-    done = in_range (is_done plan (world p)) 1 (length p.made) all turn.task turn.some (let l = turn.there in omega (arith, l))
+    done : (t : ℕ) → (1 ≤ t) × (t ≤ length p.made) → is_done plan (world p) t ≡ true
+    done t there = in_range (is_done plan (world p)) 1 (length p.made) all t there.0 (let l = there.1 in omega (arith, l))
+
+    by : Ends plan p
+    by (turn.Next t) (there, can) =
+        idle_turns _ _ ⊥ (in_call (world p) t) (idle _ (first_true _ _ (done t there)))
+        (none_begins (next_call plan p.made t) _ (second_true _ _ (done t there))) can
+    by (turn.Denied t) (there, can, busy, wants, left) = not_busy (in_call (world p) t) busy (first_true _ _ (done t there))
+    by (turn.Killed t) (there, alive, more, left) = clash (is_done plan (world p) t) (done t there) more
 
 -- a run finishes only where all are done
 pub idle_done : (plan : Plan) (w : World) → idle_finish plan w ≡ Finished → all_done plan w ≡ true

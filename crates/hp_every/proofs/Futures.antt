@@ -18,10 +18,10 @@ use Rattle.hp_core.proofs.Holds.{reached_next}
 use Rattle.hp_text.specs.declared.script.Script.{Script}
 use Rattle.hp_watch.specs.Moments.{Moment}
 use Rattle.hp_key.specs.Key.{key_words}
-use Rattle.hp_key.specs.Numbers.{counted, number_words}
+use Rattle.hp_key.specs.Numbers.{counted, wide}
 use Rattle.hp_key.proofs.Calls.{own_counted}
 use Rattle.hp_key.proofs.Same.{same_key}
-use Rattle.hp_key.proofs.Tells.{cons_same, tells_number}
+use Rattle.hp_key.proofs.Tells.{cons_same, tells_wide}
 use Rattle.hp_explore.specs.Schedule.{Plan}
 use Rattle.hp_every.specs.Schedules.{Place, AnyTurn, Leads, first_place, plan_for}
 use Rattle.hp_every.specs.Places.{AreOne, IsPlaceOf, place_words}
@@ -52,11 +52,11 @@ place_reached script p h =
 -- equal words are of one place
 pub same_words : (script : Script) (p q : Place) → IsPlaceOf script p → IsPlaceOf script q → place_words p ≡ place_words q → AreOne p q
 same_words script p q some other e =
-    let denials = cons_same p.denials q.denials (p.kills ∷ (counted number_words p.made ++ key_words p.core))
-    (q.kills ∷ (counted number_words q.made ++ key_words q.core)) e in
-    let kills = cons_same p.kills q.kills (counted number_words p.made ++ key_words p.core)
-    (counted number_words q.made ++ key_words q.core) denials.1 in
-    let made = (own_counted tells_number).tells p.made q.made (key_words p.core) (key_words q.core) kills.1 in
+    let denials = cons_same p.denials q.denials (p.kills ∷ (counted wide p.made ++ key_words p.core))
+    (q.kills ∷ (counted wide q.made ++ key_words q.core)) e in
+    let kills = cons_same p.kills q.kills (counted wide p.made ++ key_words p.core)
+    (counted wide q.made ++ key_words q.core) denials.1 in
+    let made = (own_counted tells_wide).tells p.made q.made (key_words p.core) (key_words q.core) kills.1 in
     let here = place_reached script p some in
     let there = place_reached script q other in
     record {

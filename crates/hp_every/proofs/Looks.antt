@@ -39,11 +39,11 @@ module _ (plan : Plan) (p q : Place) (h : LooksAlike p q) where
       - (if h.calls (need.place + 1) i then 1 else 0))) (next_needs plan (h.made i) t)
 
   -- the same tasks may take a turn
-  can_there : (t : ℕ) → CanTurn plan (world p) t → CanTurn plan (world q) t
+  pub can_there : (t : ℕ) → CanTurn plan (world p) t → CanTurn plan (world q) t
   can_there t can = match_same (h.calls t) (h.waits t) (λ may. same_begin t ∙ may) can
 
   -- the same are done
-  same_done : (t : ℕ) → is_done plan (world q) t ≡ is_done plan (world p) t
+  pub same_done : (t : ℕ) → is_done plan (world q) t ≡ is_done plan (world p) t
   same_done t = λ i. not (h.calls t i) && is_none (next_call plan (h.made i) t)
 
   -- a turn of the one place is one of the other, if its event has such a row there, too

@@ -110,7 +110,7 @@ meets_same first ms ns (condition.Final count number) e h =
     subst (λ (core : CoreState). count_of count core ≡ number) (last_same first ms ns e) h
 
 -- where no turn may be made each condition is looked at
-looked_at : (plan : Plan) (p : Place) → Ends plan p → (c : Condition) → IsLookedAt plan p c
+pub looked_at : (plan : Plan) (p : Place) → Ends plan p → (c : Condition) → IsLookedAt plan p c
 looked_at plan p ends (condition.Answer t call w) = tt
 looked_at plan p ends (condition.Blocked t) = tt
 looked_at plan p ends (condition.Meet t phase u other) = tt

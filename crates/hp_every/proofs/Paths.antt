@@ -84,11 +84,11 @@ same_turn plan p q r s event o u h a b =
     )
 
 -- lists with something at their ends
-never_empty : {P : Type 0} (xs : List Event) (x : Event) → ◌≡◌ {A = List Event} [] (xs ++ x ∷ []) → P
+pub never_empty : {A P : Type 0} (xs : List A) (x : A) → ◌≡◌ {A = List A} [] (xs ++ x ∷ []) → P
 never_empty [] x e = absurd (cc)
 never_empty (y ∷ xs) x e = absurd (cc)
 
-last_same : (xs ys : List Event) (x y : Event) → xs ++ x ∷ [] ≡ ys ++ y ∷ [] → (xs ≡ ys) × (x ≡ y)
+pub last_same : {A : Type 0} (xs ys : List A) (x y : A) → xs ++ x ∷ [] ≡ ys ++ y ∷ [] → (xs ≡ ys) × (x ≡ y)
 last_same [] [] x y e = (refl, (cons_same x y [] [] e).0)
 last_same [] (b ∷ ys) x y e = never_empty ys y (cons_same x b [] (ys ++ y ∷ []) e).1
 last_same (a ∷ xs) [] x y e = never_empty xs x (sym (cons_same a y (xs ++ x ∷ []) [] e).1)

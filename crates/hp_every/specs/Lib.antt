@@ -1,3 +1,5 @@
 pub mod Places
 pub mod Scheduled
 pub mod Schedules
+pub mod Search
+pub mod Turns

@@ -6,12 +6,12 @@ use Rattle.hp_core.specs.State.{CoreState, as_state}
 use Rattle.hp_text.specs.declared.script.Script.{Script}
 use Rattle.hp_watch.specs.Moments.{Moment}
 use Rattle.hp_key.specs.Key.{key_words}
-use Rattle.hp_key.specs.Numbers.{counted, number_words}
+use Rattle.hp_key.specs.Numbers.{counted, wide}
 use Rattle.hp_every.specs.Schedules.{Place, IsSchedule}
 
 -- the words of a place: the denials and kills that are left, how many calls each task has begun, and the key of the core
 abbrev pub place_words : Place → List ℕ
-place_words p = p.denials ∷ p.kills ∷ (counted number_words p.made ++ key_words p.core)
+place_words p = p.denials ∷ p.kills ∷ (counted wide p.made ++ key_words p.core)
 
 -- some schedule of the script leads there
 pub record IsPlaceOf (script : Script) (p : Place) : Type 0 where

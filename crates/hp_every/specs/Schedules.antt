@@ -16,6 +16,8 @@ use Rattle.hp_explore.specs.Explored.{is_done}
 use Rattle.hp_hunt.specs.Conditions.{MeetsAll}
 use Rattle.hp_hunt.specs.declared.condition.Condition.{Condition}
 use Rattle.hp_hunt.specs.declared.condition.Condition.TheVariants as condition
+use Rattle.hp_every.specs.declared.turn.Turn.{Turn}
+use Rattle.hp_every.specs.declared.turn.Turn.TheVariants as turn
 
 -- a place in some schedule: the core, how many of its calls each task has begun, how many steps may still be denied and tasks killed
 pub record Place : Type 0 where
@@ -96,9 +98,20 @@ pub record IsSchedule (script : Script) (denials kills : ℕ) (first : CoreState
   pub opening : IsOpening script.config first
   pub leads : Leads (plan_for script) (first_place script denials kills first) moments last
 
+-- the task is one of the script's
+abbrev pub IsTask : Place → (task : ℕ) → Type 0
+IsTask p t = (1 ≤ t) × (t ≤ length p.made)
+
+-- what may be done next: a task that may take a turn goes on, or a step of it that wants memory is denied, or one that isn't done is killed
+abbrev pub MayTurn : Plan → Place → Turn → Type 0
+MayTurn plan p (turn.Next t) = IsTask p t × CanTurn plan (world p) t
+MayTurn plan p (turn.Denied t) = IsTask p t × CanTurn plan (world p) t × (in_call (world p) t ≡ true)
+    × StepWants p.core.parts p.core.task_states t × (1 ≤ p.denials)
+MayTurn plan p (turn.Killed t) = IsTask p t × (life_of p.core t ≡ Alive) × (is_done plan (world p) t ≡ false) × (1 ≤ p.kills)
+
 -- no turn may be made there
 abbrev pub Ends : Plan → Place → Type 0
-Ends plan p = (event : Event) (outcome : Outcome) (q : Place) → AnyTurn plan p event outcome q → ⊥
+Ends plan p = (next : Turn) → MayTurn plan p next → ⊥
 
 -- where a condition is looked at: one on moments in each place, one on a count where no turn may be made
 abbrev pub IsLookedAt : Plan → Place → Condition → Type 0

@@ -32,7 +32,10 @@ fn lines_are_recalled(rt: HostRuntime) -> Result<(), Fail> {
         let last = recalling.line(2001).ok_or("the end")?;
         assert!(rt; last.bytes.is_empty() && !last.is_ended);
         assert!(rt; recalling.line(2002).is_none());
-        assert!(rt; recalling.line(1).is_none());
+        assert!(rt; recalling.line(2).is_none());
+        let first = recalling.line(1).ok_or("the first line")?;
+        assert_eq!(rt; first.bytes, "step 1".as_bytes());
+        assert_eq!(rt; recalling.ended(), Some(2000));
     }
     Ok(())
 }

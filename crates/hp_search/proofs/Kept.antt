@@ -1,0 +1,136 @@
+-- What is kept of a schedule is right.
+use Rattle.std.proofs.Common.{◌≡◌, ◌∙◌, ℕ, ◌+◌, ◌<◌, refl, ap, sym, subst, inl, inr, arith, List, [], ◌∷◌, ◌++◌, length, take}
+use Rattle.std.specs.Prelude.{◌↔◌, ◌==◌, All, Bool, true, false, Contains, slice_index_or}
+use Rattle.std.proofs.lemmas.List.{get_or_default, take_more}
+use Rattle.std.proofs.lemmas.List.Elements.{Contains-append_left, Contains-push, Contains-push_cases}
+use Rattle.std.proofs.lemmas.Bool.Decides.{nat_tests}
+use Rattle.hp_base.specs.declared.event.Event.{Event}
+use Rattle.hp_laws.proofs.Deciding.{clash}
+use Rattle.hp_core.specs.State.{CoreState}
+use Rattle.hp_watch.specs.Moments.{Moment, last_of}
+use Rattle.hp_layers.specs.Layers.{IsCutAtLimits, IsRight, IsShortest, NoneBefore, NoneMeets}
+use Rattle.hp_layers.specs.declared.limits.Limits.{Limits}
+use Rattle.hp_layers.specs.declared.verdict.Verdict.{Verdict}
+use Rattle.hp_layers.specs.declared.verdict.Verdict.TheVariants.{Never, Met, Cut}
+use Rattle.hp_explore.specs.Schedule.{Plan}
+use Rattle.hp_hunt.specs.Conditions.{MeetsAll}
+use Rattle.hp_hunt.specs.Watching.{AllKnow}
+use Rattle.hp_hunt.specs.declared.condition.Condition.{Condition}
+use Rattle.hp_hunt.specs.declared.condition.Condition.TheVariants as condition
+use Rattle.hp_every.specs.declared.turn.Turn.{Turn}
+use Rattle.hp_every.specs.Schedules.{Ends, IsLookedAt, MayTurn, Place, plan_for}
+use Rattle.hp_every.specs.Search.{AreBehind, Ask, GoesOn, HasTurns, IsFinal, IsPath, MayGoOn, MeetsHere, PathState, search_words}
+use Rattle.hp_every.specs.Turns.{AreAllTurns}
+use Rattle.hp_every.proofs.Answers.{may_at, turn_count}
+use Rattle.hp_every.proofs.Runs.{event_count}
+use Rattle.hp_every.proofs.Meets.{looked_at}
+use Rattle.hp_every.proofs.Sames.{last_core}
+use Rattle.hp_search.specs.declared.position.Position.{Position}
+use Rattle.hp_search.specs.Searching.{IsAt, place_of}
+use Rattle.hp_search.proofs.Made.{has_at}
+
+-- ---- whether it meets all conditions
+
+final_ends : (plan : Plan) (p : Place) (c : Condition) → IsFinal c → IsLookedAt plan p c → Ends plan p
+final_ends plan p (condition.Answer t call w) bad h = absurd bad
+final_ends plan p (condition.Blocked t) bad h = absurd bad
+final_ends plan p (condition.Meet t phase u other) bad h = absurd bad
+final_ends plan p (condition.Final count number) is h = h
+
+unlisted : (plan : Plan) (p : Place) (turns : List Turn) → AreAllTurns plan p turns → (length turns == 0) ≡ true → Ends plan p
+unfolding AreAllTurns
+unlisted plan p [] all e next may = (let c = (all next).1 may in absurd (omega (arith, c.1)))
+unlisted plan p (x ∷ xs) all e next may = (let bad : (length (x ∷ xs) == 0) ≡ false = grind (arith, nat_tests) in clash (length (x ∷ xs) == 0) e bad)
+
+none_listed : (plan : Plan) (p : Place) (turns : List Turn) → AreAllTurns plan p turns → Ends plan p → (length turns == 0) ≡ true
+unfolding AreAllTurns
+none_listed plan p [] all ends = refl
+none_listed plan p (x ∷ xs) all ends = absurd (ends x ((all x).0 (0, omega arith, refl)))
+
+pub ends_met : (plan : Plan) (conditions : List Condition) (first : CoreState) (moments : List Moment) (p : Place) (turns : List Turn) (empty : Bool)
+    → MeetsAll conditions first moments → (k : ℕ) → k < length conditions → ((d : Condition) → IsFinal (slice_index_or conditions k d))
+    → AreAllTurns plan p turns → empty ≡ (length turns == 0) → (empty ≡ true ↔ MeetsHere plan conditions first moments p)
+ends_met plan conditions first moments p turns empty meets k within final all is = (
+  λ e. record { looked_at = λ j d l. looked_at plan p (unlisted plan p turns all (sym is ∙ e)) (slice_index_or conditions j d); meets = meets },
+  λ h. is ∙ none_listed plan p turns all
+      (let d : Condition = condition.Blocked 0 in final_ends plan p (slice_index_or conditions k d) (final d) (h.looked_at k d within)),
+)
+
+-- ---- paths
+
+pub path_is : (a : Ask) (turns : List Turn) (events : List Event) (p : Position) (key : List ℕ) (met : Bool) → IsAt a turns events p
+    → key ≡ search_words p.watches.items (place_of p)
+    → ((first : CoreState) (moments : List Moment) → p.walk.core ≡ last_of first moments → AllKnow a.conditions p.watches.items moments
+    → (met ≡ true ↔ MeetsHere (plan_for a.script) a.conditions first moments (place_of p)))
+    → IsPath a (record { turns = turns; key = key; met = met })
+path_is a turns events p key met at is meets = record {
+  first = at.first;
+  moments = at.moments;
+  last = place_of p;
+  watches = p.watches.items;
+  run = at.run;
+  made = at.made;
+  know = at.know;
+  key = is;
+  met = meets at.first at.moments (sym (last_core a at.first at.moments (place_of p) at.run)) at.know;
+}
+
+pub behind_may : (a : Ask) (turns : List Turn) (events : List Event) (p : Position) (next : Turn) → MayGoOn a turns next → IsAt a turns events p
+    → MayTurn (plan_for a.script) (place_of p) next
+behind_may a turns events p next may at = may_at a turns may.has (has_at a turns events p at) next may.may
+
+pub behind_one : (a : Ask) (s next : PathState) (turns : List Turn) (k : ℕ) (d : Turn) (old : List PathState) → k < length turns
+    → AreBehind a s (take k turns) old → IsPath a next → next.turns ≡ s.turns ++ slice_index_or turns k d ∷ []
+    → AreBehind a s (take (k + 1) turns) (old ++ next ∷ [])
+behind_one a s next turns k d old within behind path is =
+    subst (λ (xs : List Turn). AreBehind a s xs (old ++ next ∷ [])) (sym (take_more turns k d within)) (record {
+      some = λ t c. elim (Contains-push_cases old next t c) [
+        | inl before ↦ behind.some t before
+        | inr same ↦ subst (λ (u : PathState). GoesOn a s u) same (record { next = slice_index_or turns k d; turns = is; path = path })
+      ];
+      all = λ x c. elim (Contains-push_cases (take k turns) (slice_index_or turns k d) x c) [
+        | inl before ↦ (let h = behind.all x before in (h.0, Contains-append_left old (next ∷ []) h.0 h.1, h.2))
+        | inr same ↦ (next, Contains-push old next, is ∙ ap (λ (y : Turn). s.turns ++ y ∷ []) same)
+      ];
+    })
+
+-- each of a list is in it
+in_list : {A : Type 0} (xs : List A) (k : ℕ) (d : A) → k < length xs → Contains xs (slice_index_or xs k d)
+in_list xs k d within = (k, within, get_or_default xs k (slice_index_or xs k d) d within)
+
+-- behind the turns each that may be made may be made
+pub goes_on : (a : Ask) (turns : List Turn) (here : HasTurns a turns) (next : List Turn) → AreAllTurns (plan_for a.script) here.last next
+    → All (MayGoOn a turns) next
+unfolding AreAllTurns
+goes_on a turns here next all k d within =
+    record { has = here; may = (all (slice_index_or next k d)).0 (in_list next k d within) }
+
+-- ---- what a search says
+
+pub right_never : {S : Type 0} (turn : S → S → Type 0) (meets : S → Type 0) (first : S) (v : Verdict S) → v ≡ Never → IsRight turn meets first v
+    → (n : ℕ) → NoneMeets turn meets first n
+unfolding IsRight
+right_never turn meets first v is h = subst (IsRight turn meets first) is h
+
+pub right_met : {S : Type 0} (turn : S → S → Type 0) (meets : S → Type 0) (first s : S) (n : ℕ) (v : Verdict S) → v ≡ Met s n
+    → IsRight turn meets first v → IsShortest turn meets first s n
+unfolding IsRight
+right_met turn meets first s n v is h = subst (IsRight turn meets first) is h
+
+pub right_cut : {S : Type 0} (turn : S → S → Type 0) (meets : S → Type 0) (first : S) (n : ℕ) (v : Verdict S) → v ≡ Cut n
+    → IsRight turn meets first v → NoneBefore turn meets first n
+unfolding IsRight
+right_cut turn meets first n v is h = subst (IsRight turn meets first) is h
+
+pub right_within : {S K : Type 0} (eq : K → K → Bool) (key_of : S → K) (turn : S → S → Type 0) (limits : Limits) (first s : S) (n : ℕ)
+    (v : Verdict S) → v ≡ Met s n → IsCutAtLimits eq key_of turn first limits v → n < limits.turns
+unfolding IsCutAtLimits
+right_within eq key_of turn limits first s n v is h = subst (IsCutAtLimits eq key_of turn first limits) is h
+
+-- as many events as turns
+pub within : (a : Ask) (turns : List Turn) (events : List Event) (p : Position) (n most : ℕ) → IsAt a turns events p → length turns ≡ n → n < most
+    → length events < most
+within a turns events p n most at long few =
+    let told = ap (λ (es : List Event). length es) (sym at.told) ∙ event_count at.moments in
+    let made = ap (λ (xs : List Turn). length xs) (sym at.made) ∙ turn_count at.moments in
+    omega (arith, told, made, long, few)

@@ -1,0 +1,6 @@
+use Rattle.hp_search.proofs.Made.{ListsUpTo}
+use Rattle.hp_search.specs.Searching.{place_of}
+use Rattle.hp_search.proofs.position.Position.next_turns.Given as goal
+
+abbrev pub invariant-loop-place : goal.invariant-loop-place
+invariant-loop-place l = ListsUpTo l.plan (place_of l.self) l.turns.items l.place

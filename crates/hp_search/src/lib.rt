@@ -1,0 +1,21 @@
+//! A search among all schedules of a script, place by place.
+//!
+//! It stands on hp_every, which says what a schedule is and proves that places with equal words have equal futures, and on hp_layers, which
+//! goes through whatever can be reached, layer by layer. It promises that where it says never no schedule meets the conditions, and that a
+//! schedule that it finds is a shortest that does. It keeps the turns of each schedule, and makes them again. It knows no stream.
+#![tactic(auto)]
+
+mod answer;
+mod finding;
+mod following;
+mod growth;
+mod key;
+mod path;
+mod position;
+mod quest;
+
+pub use answer::Every;
+pub use finding::{Allowed, find_every};
+
+#[cfg(test)]
+mod tests;

@@ -1,0 +1,167 @@
+//! What a search keeps of a schedule.
+ghost use Rattle.std.specs.Prelude.{◌≡◌, ◌↔◌, ◌++◌, ◌∷◌, ◌<◌, ◌≤◌, [], ℕ, true, false, List, All, IfOk, IsTrue, OnOk, length, slice_index_or};
+ghost use Rattle.std.specs.List.{flat_map};
+ghost use Rattle.hp_core.specs.State.{CoreState};
+ghost use Rattle.hp_hunt.specs.Watching.{AllKnow};
+ghost use Rattle.hp_key.specs.Numbers.{counted, wide};
+ghost use Rattle.hp_watch.specs.Moments.{Moment, last_of};
+ghost use Rattle.hp_every.specs.Search.{AreBehind, IsFinal, IsPath, MayGoOn, MeetsHere, search_words, watch_words};
+ghost use Rattle.hp_search.specs.Searching.{IsAt, IsQuest, ask_of, place_of};
+ghost use Rattle.hp_hunt.specs.declared.condition.Condition.{Condition};
+ghost use Rattle.hp_every.specs.declared.turn.Turn.{Turn};
+ghost use Rattle.hp_base.specs.declared.event.Event.{Event};
+
+use crate::following::follow;
+use crate::key::Key;
+use crate::position::Position;
+use crate::quest::Quest;
+use hp_base::{Event, Op};
+use hp_every::Turn;
+use hp_hunt::{Condition, Watch, are_met};
+use hp_key::push_wide;
+use std::alloc::{AllocError, Global};
+use std::marker::Model;
+
+/// A schedule: its turns, the key of the place in which it stands and of what was seen on the way, and whether it meets all conditions.
+#[derive(Drop)]
+pub(crate) struct Path {
+    pub(crate) turns: Vec<Turn>,
+    pub(crate) key: Key,
+    pub(crate) met: bool,
+}
+
+impl Model for Path {
+    ghost use Rattle.hp_every.specs.Search.{PathState};
+
+    ghost Value = { PathState };
+
+    ghost view = { λ p. record { turns = p.turns.items; key = p.key; met = p.met } };
+}
+
+/// What the watches have seen, as words.
+fn push_watches(words: &mut Vec<u32>, watches: &[Watch]) -> Result<(), AllocError>
+    ensures { OnOk result (words.new.items ≡ words.old.items ++ flat_map watch_words watches.now) }
+{
+    for watch in watches {
+        words.push(u32::from(watch.is_seen()))?;
+        push_wide(words, watch.begun())?;
+    }
+    Ok(())
+}
+
+/// How many calls each task has begun, as words.
+fn push_made(words: &mut Vec<u32>, made: &[usize]) -> Result<(), AllocError>
+    requires { length made.now ≤ 64 }
+    ensures { OnOk result (words.new.items ≡ words.old.items ++ counted wide made.now) }
+{
+    words.push(made.len() as u32)?;
+    for calls in made {
+        push_wide(words, *calls as u64)?;
+    }
+    Ok(())
+}
+
+// Room for the words of a small pool.
+const ROOM: usize = 256;
+
+/// The words of a place, and of what was seen on the way.
+fn search_key(alloc: Global, position: &Position) -> Result<Key, AllocError>
+    ensures { IfOk result (λ key. key ≡ search_words position.now.watches.items (place_of position.now)) }
+{
+    let mut words = Vec::with_capacity(alloc, ROOM)?;
+    push_watches(&mut words, &position.watches)?;
+    words.push(position.denials)?;
+    words.push(position.kills)?;
+    push_made(&mut words, position.walk.made())?;
+    let core = hp_key::key(alloc, position.walk.core())?;
+    words.extend_from_slice(&core)?;
+    Ok(Key { words })
+}
+
+/// Whether one of the conditions is looked at where no turn may be made.
+fn is_final(condition: &Condition) -> bool
+    ensures { IsTrue result ↔ IsFinal condition.now }
+{
+    matches!(condition, Condition::Final { .. })
+}
+
+fn has_final(conditions: &[Condition]) -> bool
+    ensures some { result ≡ true → (k : ℕ) × (k < length conditions.now) × ((d : Condition) → IsFinal (slice_index_or conditions.now k d)) }
+    ensures none { result ≡ false → All (λ c. ¬ IsFinal c) conditions.now }
+{
+    for condition in conditions {
+        if is_final(condition) {
+            return true;
+        }
+    }
+    false
+}
+
+/// Whether the schedule meets all conditions in the place where it stands.
+fn is_met(alloc: Global, quest: Quest, position: &Position) -> Result<bool, AllocError>
+    ensures { IfOk result (λ met. (first : CoreState) (moments : List Moment) → position.now.walk.core ≡ last_of first moments
+        → AllKnow quest.entry.conditions.now position.now.watches.items moments
+        → (met ≡ true ↔ MeetsHere quest.entry.plan.now quest.entry.conditions.now first moments (place_of position.now))) }
+{
+    if !are_met(position.watches.as_slice(), position.walk.core()) {
+        return Ok(false);
+    }
+    if !has_final(quest.conditions) {
+        return Ok(true);
+    }
+    let turns = position.next_turns(alloc, quest.plan)?;
+    Ok(turns.as_slice().is_empty())
+}
+
+/// The schedule of these turns, which stands there.
+pub(crate) fn path_at(
+    alloc: Global,
+    quest: Quest,
+    turns: Vec<Turn>,
+    position: &Position,
+) -> Result<Path, AllocError>
+    requires planned { IsQuest quest }
+    requires at { (events : List Event) × IsAt (ask_of quest) turns.items events position.now }
+    ensures path { IfOk result (IsPath (ask_of quest.entry)) }
+    ensures turns { IfOk result (λ path. path.turns ≡ turns.items) }
+{
+    let key = search_key(alloc, position)?;
+    let met = is_met(alloc, quest, position)?;
+    Ok(Path { turns, key, met })
+}
+
+/// The schedule with one turn more.
+fn path_behind(alloc: Global, quest: Quest, path: &Path, turn: Turn) -> Result<Path, AllocError>
+    requires planned { IsQuest quest }
+    requires may { MayGoOn (ask_of quest) path.now.turns turn }
+    ensures path { IfOk result (IsPath (ask_of quest.entry)) }
+    ensures turns { IfOk result (λ next. next.turns ≡ path.now.turns ++ turn ∷ []) }
+{
+    // The checker of borrows asks for a mention of the type that an event may hold.
+    let _none: (Option<Event>, Option<Op>) = (None, None);
+    let mut events = Vec::with_capacity(alloc, path.turns.len())?;
+    let mut position = follow(alloc, quest, &path.turns, &mut events)?;
+    position.make(quest.plan, turn)?;
+    let mut turns = Vec::with_capacity(alloc, path.turns.len().saturating_add(1))?;
+    turns.extend_from_slice(&path.turns)?;
+    turns.push(turn)?;
+    path_at(alloc, quest, turns, &position)
+}
+
+/// The schedules with one of these turns more.
+pub(crate) fn paths_behind(
+    alloc: Global,
+    quest: Quest,
+    path: &Path,
+    turns: &[Turn],
+) -> Result<Vec<Path>, AllocError>
+    requires planned { IsQuest quest }
+    requires may { All (MayGoOn (ask_of quest) path.now.turns) turns.now }
+    ensures { IfOk result (λ next. AreBehind (ask_of quest.entry) path.now turns.now next.items) }
+{
+    let mut next = Vec::with_capacity(alloc, turns.len())?;
+    for turn in turns {
+        next.push(path_behind(alloc, quest, path, *turn)?)?;
+    }
+    Ok(next)
+}

@@ -1,0 +1,166 @@
+//! A place in a schedule, and what conditions have seen on the way there.
+ghost use Rattle.std.specs.Prelude.{◌≡◌, ◌≤◌, ◌↔◌, ◌⊎◌, [], Contains, IfOk, IsTrue, OnOk};
+ghost use Rattle.hp_core.specs.Runs.{IsOpening};
+ghost use Rattle.hp_explore.specs.Explored.{is_done};
+ghost use Rattle.hp_hunt.specs.Watching.{AllKnow};
+ghost use Rattle.hp_every.specs.Schedules.{IsTask, MayTurn, first_place, world};
+ghost use Rattle.hp_every.specs.declared.turn.Turn.{Turn};
+ghost use Rattle.hp_every.specs.declared.turn.Turn.TheVariants as turn;
+ghost use Rattle.hp_every.specs.Turns.{AreAllTurns, IsChosen, task_of};
+ghost use Rattle.hp_search.specs.Searching.{IsMade, place_of};
+
+use crate::growth::step_wants;
+use crate::quest::Quest;
+use hp_base::{Answer, Event, Op, Task};
+use hp_core::Outcome;
+use hp_every::Turn;
+use hp_explore::{Plan, Walk};
+use hp_hunt::{Watch, see_all, watch_all};
+use std::alloc::{AllocError, Global};
+
+/// Where a run of turns stands.
+#[derive(Drop)]
+pub(crate) struct Position {
+    pub(crate) walk: Walk,
+    /// One for each condition.
+    pub(crate) watches: Vec<Watch>,
+    /// So many steps may still be denied, and so many tasks killed.
+    pub(crate) denials: u32,
+    pub(crate) kills: u32,
+}
+
+/// Lists the turn behind the others, if it may be made.
+fn push_if(turns: &mut Vec<Turn>, turn: Turn, may: bool) -> Result<(), AllocError>
+    ensures { OnOk result ((t : Turn) → (Contains turns.new.items t ↔ (Contains turns.old.items t ⊎ (IsTrue may × (t ≡ turn))))) }
+{
+    if may {
+        turns.push(turn)?;
+    }
+    Ok(())
+}
+
+impl Position {
+    /// Before any turn.
+    pub(crate) fn first(alloc: Global, quest: Quest) -> Result<Position, AllocError>
+        ensures opening { IfOk result (λ p. IsOpening quest.entry.script.now.config p.walk.core) }
+        ensures place { IfOk result (λ p. place_of p ≡ first_place quest.entry.script.now quest.entry.denials quest.entry.kills p.walk.core) }
+        ensures know { IfOk result (λ p. AllKnow quest.entry.conditions.now p.watches.items []) }
+    {
+        Ok(Position {
+            walk: Walk::new(alloc, quest.script, 0)?,
+            watches: watch_all(alloc, quest.conditions)?,
+            denials: quest.denials,
+            kills: quest.kills,
+        })
+    }
+
+    /// What the task asks for as it goes on. The call that it begins is counted.
+    fn go_on(&mut self, plan: &Plan, task: u8) -> Event
+        requires { MayTurn plan.now (place_of self.old) (turn.Next task) }
+        ensures chosen { IsChosen plan.now (place_of self.old) (turn.Next task) result (place_of self.new) }
+        ensures core { self.new.walk.core ≡ self.old.walk.core }
+        ensures watches { self.new.watches ≡ self.old.watches }
+    {
+        let number = u32::from(task);
+        if !self.walk.in_call(number) {
+            if let Some(op) = self.walk.next_call(plan, number) {
+                self.walk.count_begun(number);
+                return Event::Begin(Task::new(number), op);
+            }
+        }
+        Event::Step(Task::new(number), true)
+    }
+
+    /// What the turn asks for. What it takes of the calls, the denials and the kills is taken.
+    fn choose(&mut self, plan: &Plan, turn: Turn) -> Event
+        requires { MayTurn plan.now (place_of self.old) turn }
+        ensures chosen { IsChosen plan.now (place_of self.old) turn result (place_of self.new) }
+        ensures core { self.new.walk.core ≡ self.old.walk.core }
+        ensures watches { self.new.watches ≡ self.old.watches }
+    {
+        match turn {
+            Turn::Next(task) => self.go_on(plan, task),
+            Turn::Denied(task) => {
+                self.denials -= 1;
+                Event::Step(Task::new(u32::from(task)), false)
+            }
+            Turn::Killed(task) => {
+                self.kills -= 1;
+                Event::Kill(Task::new(u32::from(task)))
+            }
+        }
+    }
+
+    /// Makes the turn. Tells its event.
+    pub(crate) fn make(&mut self, plan: &Plan, turn: Turn) -> Result<Event, AllocError>
+        requires { MayTurn plan.now (place_of self.old) turn }
+        ensures { IfOk result (λ event. IsMade plan.now self.old turn event self.new) }
+    {
+        // The checker of borrows asks for a mention of the types that a turn may hold.
+        let _none: (Option<Op>, Option<Outcome>, Option<Answer>) = (None, None, None);
+        let event = self.choose(plan, turn);
+        let outcome = self.walk.play(&event, turn.task())?;
+        see_all(&mut self.watches, &event, &outcome, self.walk.core());
+        Ok(event)
+    }
+
+    /// Whether the task has no call in flight and none left.
+    fn is_done(&self, plan: &Plan, task: u32) -> bool
+        requires { IsTask (place_of self.now) task }
+        ensures { result ≡ is_done plan.now (world (place_of self.now)) task }
+    {
+        !self.walk.in_call(task) && self.walk.next_call(plan, task).is_none()
+    }
+
+    /// Whether the task may go on.
+    fn may_go_on(&self, plan: &Plan, task: u32) -> bool
+        requires { IsTask (place_of self.now) task }
+        ensures { IsTrue result ↔ MayTurn plan.now (place_of self.now) (turn.Next task) }
+    {
+        self.walk.can_turn(plan, task)
+    }
+
+    /// Whether a step of the task may be denied.
+    fn may_deny(&self, plan: &Plan, task: u32) -> bool
+        requires { IsTask (place_of self.now) task }
+        ensures { IsTrue result ↔ MayTurn plan.now (place_of self.now) (turn.Denied task) }
+    {
+        self.denials > 0
+            && self.walk.in_call(task)
+            && self.may_go_on(plan, task)
+            && step_wants(self.walk.core(), Task::new(task))
+    }
+
+    /// Whether the task may be killed.
+    fn may_kill(&self, plan: &Plan, task: u32) -> bool
+        requires { IsTask (place_of self.now) task }
+        ensures { IsTrue result ↔ MayTurn plan.now (place_of self.now) (turn.Killed task) }
+    {
+        self.kills > 0 && self.walk.is_alive(task) && !self.is_done(plan, task)
+    }
+
+    /// Lists the turns of the task that may be made, behind those that are listed.
+    fn push_turns(&self, plan: &Plan, task: u8, turns: &mut Vec<Turn>) -> Result<(), AllocError>
+        requires { IsTask (place_of self.now) task }
+        ensures { OnOk result ((t : Turn) → (Contains turns.new.items t
+            ↔ (Contains turns.old.items t ⊎ ((task_of t ≡ task) × MayTurn plan.now (place_of self.now) t)))) }
+    {
+        let number = u32::from(task);
+        push_if(turns, Turn::Next(task), self.may_go_on(plan, number))?;
+        push_if(turns, Turn::Denied(task), self.may_deny(plan, number))?;
+        push_if(turns, Turn::Killed(task), self.may_kill(plan, number))?;
+        Ok(())
+    }
+
+    /// All turns that may be made.
+    pub(crate) fn next_turns(&self, alloc: Global, plan: &Plan) -> Result<Vec<Turn>, AllocError>
+        ensures { IfOk result (λ turns. AreAllTurns plan.now (place_of self.now) turns.items) }
+    {
+        let tasks = self.walk.made().len();
+        let mut turns = Vec::new(alloc);
+        for place in 0..tasks {
+            self.push_turns(plan, place as u8 + 1, &mut turns)?;
+        }
+        Ok(turns)
+    }
+}

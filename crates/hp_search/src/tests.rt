@@ -1,0 +1,96 @@
+//! Two tasks that each map a page, in a pool that has one. By the phases of a map, one that is mapped has 8 events with its begin, one that
+//! finds no frame 7, and one that is denied its descriptor 4.
+use crate::{Allowed, Every, find_every};
+use hp_base::Task;
+use hp_hunt::{AnswerWord, Condition};
+use hp_layers::{Limits, Progress};
+use hp_text::{ReplayFault, read_any_script};
+use std::alloc::Global;
+use std::test::Fail;
+
+const MAPS: &str = "pool 1 1 4 2\nbegin 1 map 0 0 1\nbegin 2 map 0 1 1\n";
+
+/// How many layers were told.
+#[derive(Drop)]
+struct Told {
+    layers: u32,
+}
+
+impl Progress for Told {
+    fn layer(&mut self, turns: u32, states: usize) {
+        let _ = (turns, states);
+        self.layers = self.layers.saturating_add(1);
+    }
+}
+
+/// How the first calls of both tasks are to end.
+fn both(one: AnswerWord, other: AnswerWord) -> [Condition; 2] {
+    let answer = |number, word| Condition::Answer {
+        task: Task::new(number),
+        call: 1,
+        word,
+    };
+    [answer(1, one), answer(2, other)]
+}
+
+/// What is said of all schedules: the number of events of a shortest; 1000 if there is none; 2000 if there are too many states.
+fn said(
+    alloc: Global,
+    conditions: &[Condition],
+    allowed: Allowed,
+    states: usize,
+) -> Result<usize, ReplayFault> {
+    let script = read_any_script(alloc, &mut MAPS.as_bytes())?;
+    let limits = Limits {
+        turns: 1000,
+        states,
+    };
+    let mut told = Told { layers: 0 };
+    match find_every(alloc, &script, allowed, conditions, limits, &mut told)? {
+        Every::Met(trace) => Ok(trace.events.len()),
+        Every::Never => Ok(1000),
+        Every::Cut { .. } => Ok(2000),
+    }
+}
+
+const NOTHING: Allowed = Allowed {
+    denials: 0,
+    kills: 0,
+};
+
+#[test]
+fn one_of_two_gets_the_page(rt: HostRuntime) -> Result<(), Fail> {
+    let met = both(AnswerWord::Mapped, AnswerWord::NoFrame);
+    let turns = said(rt.alloc(), &met, NOTHING, 1000);
+    assert!(rt; matches!(turns, Ok(15)));
+    let never = said(
+        rt.alloc(),
+        &both(AnswerWord::Mapped, AnswerWord::Mapped),
+        NOTHING,
+        1000,
+    );
+    assert!(rt; matches!(never, Ok(1000)));
+    Ok(())
+}
+
+#[test]
+fn a_denial_is_made_where_one_is_allowed(rt: HostRuntime) -> Result<(), Fail> {
+    let denied = both(AnswerWord::Mapped, AnswerWord::NoMemory);
+    let never = said(rt.alloc(), &denied, NOTHING, 1000);
+    assert!(rt; matches!(never, Ok(1000)));
+    let allowed = Allowed {
+        denials: 1,
+        kills: 0,
+    };
+    let met = said(rt.alloc(), &denied, allowed, 1000);
+    assert!(rt; matches!(met, Ok(12)));
+    Ok(())
+}
+
+#[test]
+fn too_many_states_are_told(rt: HostRuntime) -> Result<(), Fail> {
+    let never = both(AnswerWord::Mapped, AnswerWord::Mapped);
+    let cut = said(rt.alloc(), &never, NOTHING, 2);
+    assert!(rt; matches!(cut, Ok(2000)));
+    Ok(())
+}
