@@ -7,6 +7,7 @@ pub(crate) const COLOR: Choice = Choice {
     takes: Takes::Name("auto", &["auto", "always", "never"]),
     help: "Colours words of failure and waiting; JSON and traces stay plain",
     conflicts: &[],
+    needs: &[],
 };
 
 pub(crate) const REPLAY_JSON: Choice = Choice {
@@ -15,6 +16,7 @@ pub(crate) const REPLAY_JSON: Choice = Choice {
     takes: Takes::Nothing,
     help: "Prints lines of JSON, as explain --json does; reads the whole trace first",
     conflicts: &[],
+    needs: &[],
 };
 
 pub(crate) const JSON: Choice = Choice {
@@ -23,14 +25,16 @@ pub(crate) const JSON: Choice = Choice {
     takes: Takes::Nothing,
     help: "Prints lines of JSON instead of rows: an object for the pool, for each event, and for the state",
     conflicts: &["linux", "compact"],
+    needs: &[],
 };
 
 pub(crate) const LINES: Choice = Choice {
     name: "lines",
     form: "A..B",
     takes: Takes::Text(None),
-    help: "Prints only the rows of lines A to B of the trace, and the state after line B",
+    help: "Prints only the rows of lines A to B of the trace, and the state after line B; also A alone, A.. or ..B",
     conflicts: &[],
+    needs: &[],
 };
 
 pub(crate) const TASKS: Choice = Choice {
@@ -39,6 +43,7 @@ pub(crate) const TASKS: Choice = Choice {
     takes: Takes::Text(None),
     help: "Prints only the rows of these tasks' events",
     conflicts: &[],
+    needs: &[],
 };
 
 pub(crate) const LINUX: Choice = Choice {
@@ -47,6 +52,7 @@ pub(crate) const LINUX: Choice = Choice {
     takes: Takes::Nothing,
     help: "Prints after each phase the Linux function that does what the step did",
     conflicts: &[],
+    needs: &[],
 };
 
 pub(crate) const COMPACT: Choice = Choice {
@@ -55,6 +61,7 @@ pub(crate) const COMPACT: Choice = Choice {
     takes: Takes::Nothing,
     help: "Prints one column for all tasks, and waits on lines of their own",
     conflicts: &[],
+    needs: &[],
 };
 
 pub(crate) const HTML: Choice = Choice {
@@ -63,6 +70,7 @@ pub(crate) const HTML: Choice = Choice {
     takes: Takes::Nothing,
     help: "Prints an HTML page that scrolls and zooms; events can be picked and searched",
     conflicts: &[],
+    needs: &[],
 };
 
 pub(crate) const SEED: Choice = Choice {
@@ -71,6 +79,7 @@ pub(crate) const SEED: Choice = Choice {
     takes: Takes::Long("1"),
     help: "Seed of run 0, a 64-bit number",
     conflicts: &[],
+    needs: &[],
 };
 
 pub(crate) const RUNS: Choice = Choice {
@@ -79,6 +88,7 @@ pub(crate) const RUNS: Choice = Choice {
     takes: Takes::Number(Some("10"), 1, 65_536),
     help: "Number of runs, at most 65536",
     conflicts: &[],
+    needs: &[],
 };
 
 pub(crate) const RUN: Choice = Choice {
@@ -87,6 +97,7 @@ pub(crate) const RUN: Choice = Choice {
     takes: Takes::Number(Some("0"), 0, 4_294_967_295),
     help: "Number of the run, counted from 0",
     conflicts: &[],
+    needs: &[],
 };
 
 pub(crate) const LIMIT: Choice = Choice {
@@ -95,6 +106,7 @@ pub(crate) const LIMIT: Choice = Choice {
     takes: Takes::Number(Some("65536"), 1, 4_294_967_295),
     help: "Maximum number of runs",
     conflicts: &[],
+    needs: &[],
 };
 
 pub(crate) const DENY: Choice = Choice {
@@ -103,6 +115,7 @@ pub(crate) const DENY: Choice = Choice {
     takes: Takes::Number(Some("0"), 0, 1000),
     help: "Chance in 1000 that a step's allocation fails",
     conflicts: &[],
+    needs: &[],
 };
 
 pub(crate) const KILL: Choice = Choice {
@@ -111,6 +124,7 @@ pub(crate) const KILL: Choice = Choice {
     takes: Takes::Number(Some("0"), 0, 1000),
     help: "Chance in 1000 that a turn kills its task",
     conflicts: &[],
+    needs: &[],
 };
 
 pub(crate) const AUDIT: Choice = Choice {
@@ -119,6 +133,7 @@ pub(crate) const AUDIT: Choice = Choice {
     takes: Takes::Nothing,
     help: "Audits the pool after each turn, up to thousands of times slower; the audit is proved to pass, so the lines stay the same",
     conflicts: &[],
+    needs: &[],
 };
 
 pub(crate) const SUMMARY: Choice = Choice {
@@ -127,6 +142,7 @@ pub(crate) const SUMMARY: Choice = Choice {
     takes: Takes::Nothing,
     help: "Prints one summary of all runs instead of a line for each: turns, tasks held up, phases that met, and answers",
     conflicts: &["audit"],
+    needs: &[],
 };
 
 pub(crate) const ANSWER: Choice = Choice {
@@ -135,6 +151,7 @@ pub(crate) const ANSWER: Choice = Choice {
     takes: Takes::Texts,
     help: "The K-th call of task T ends with the answer WORD",
     conflicts: &[],
+    needs: &[],
 };
 
 pub(crate) const BLOCKED: Choice = Choice {
@@ -143,6 +160,7 @@ pub(crate) const BLOCKED: Choice = Choice {
     takes: Takes::Texts,
     help: "At some moment the next step of task T is blocked",
     conflicts: &[],
+    needs: &[],
 };
 
 pub(crate) const MEET: Choice = Choice {
@@ -151,14 +169,61 @@ pub(crate) const MEET: Choice = Choice {
     takes: Takes::Texts,
     help: "At some moment the call of task T is in phase P and that of task U in phase Q",
     conflicts: &[],
+    needs: &[],
 };
 
 pub(crate) const FINAL: Choice = Choice {
     name: "final",
     form: "COUNT=N",
     takes: Takes::Texts,
-    help: "At the end the pool's count resv, free or used is N",
+    help: "At the end no call is in flight, and the pool's count resv, free or used is N",
     conflicts: &[],
+    needs: &[],
+};
+
+pub(crate) const ANYWHERE: Choice = Choice {
+    name: "anywhere",
+    form: "",
+    takes: Takes::Nothing,
+    help: "With --final: calls may be in flight at the end",
+    conflicts: &[],
+    needs: &[],
+};
+
+pub(crate) const EVERY: Choice = Choice {
+    name: "every",
+    form: "",
+    takes: Takes::Nothing,
+    help: "Searches all schedules instead of random runs: prints the shortest, or says that none meets the conditions",
+    conflicts: &["limit", "seed", "deny", "kill"],
+    needs: &[],
+};
+
+pub(crate) const DENIALS: Choice = Choice {
+    name: "denials",
+    form: "N",
+    takes: Takes::Number(Some("0"), 0, 1000),
+    help: "With --every: at most N allocations fail, anywhere",
+    conflicts: &[],
+    needs: &["every"],
+};
+
+pub(crate) const KILLS: Choice = Choice {
+    name: "kills",
+    form: "N",
+    takes: Takes::Number(Some("0"), 0, 64),
+    help: "With --every: at most N tasks are killed, anywhere",
+    conflicts: &[],
+    needs: &["every"],
+};
+
+pub(crate) const STATES: Choice = Choice {
+    name: "states",
+    form: "N",
+    takes: Takes::Number(Some("1000000"), 1, 4_294_967_295),
+    help: "With --every: maximum number of states kept at once, some 1.5 kB each",
+    conflicts: &[],
+    needs: &["every"],
 };
 
 pub(crate) const TIMES: Choice = Choice {
@@ -167,6 +232,7 @@ pub(crate) const TIMES: Choice = Choice {
     takes: Takes::Number(Some("10"), 1, 65_536),
     help: "Number of races",
     conflicts: &[],
+    needs: &[],
 };
 
 pub(crate) const CUT: Choice = Choice {
@@ -175,6 +241,7 @@ pub(crate) const CUT: Choice = Choice {
     takes: Takes::Number(None, 1, 65_536),
     help: "Cuts the journal after each N calls of each task",
     conflicts: &[],
+    needs: &[],
 };
 
 pub(crate) const RACE_KILL: Choice = Choice {
@@ -183,6 +250,7 @@ pub(crate) const RACE_KILL: Choice = Choice {
     takes: Takes::Number(Some("0"), 0, 1000),
     help: "Chance in 1000 that a task is killed before a call",
     conflicts: &[],
+    needs: &[],
 };
 
 pub(crate) const RACE_TRACE: Choice = Choice {
@@ -191,6 +259,7 @@ pub(crate) const RACE_TRACE: Choice = Choice {
     takes: Takes::Nothing,
     help: "Races once, and prints the pool's events as a trace",
     conflicts: &["times", "cut"],
+    needs: &[],
 };
 
 pub(crate) const DRIVER: Choice = Choice {
@@ -199,6 +268,7 @@ pub(crate) const DRIVER: Choice = Choice {
     takes: Takes::Text(Some("core")),
     help: "Driver that makes its calls: core or pool",
     conflicts: &[],
+    needs: &[],
 };
 
 pub(crate) const WORK_TRACE: Choice = Choice {
@@ -207,4 +277,5 @@ pub(crate) const WORK_TRACE: Choice = Choice {
     takes: Takes::Nothing,
     help: "Prints what the calls did to a pool, as a trace",
     conflicts: &["on"],
+    needs: &[],
 };

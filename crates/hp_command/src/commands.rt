@@ -58,7 +58,7 @@ const DRAW: Row = Row {
     choices: &[HTML],
 };
 
-const EXPLORE: Row = Row {
+pub(crate) const EXPLORE: Row = Row {
     name: "explore",
     about: "Explores a script: runs it in many random orders, and prints a line for each run",
     usage: "hugepool explore [OPTIONS] [FILE]",
@@ -76,7 +76,7 @@ const CHECK: Row = Row {
     choices: &[],
 };
 
-const SCHEDULE: Row = Row {
+pub(crate) const SCHEDULE: Row = Row {
     name: "schedule",
     about: "Prints one run of a script as a trace",
     usage: "hugepool schedule [OPTIONS] [FILE]",
@@ -91,7 +91,10 @@ pub(crate) const FIND: Row = Row {
     usage: "hugepool find CONDITION.. [OPTIONS] [FILE]",
     told: FINDS,
     operand: Operand::File,
-    choices: &[ANSWER, BLOCKED, MEET, FINAL, LIMIT, SEED, DENY, KILL],
+    choices: &[
+        ANSWER, BLOCKED, MEET, FINAL, ANYWHERE, LIMIT, SEED, DENY, KILL, EVERY, DENIALS, KILLS,
+        STATES,
+    ],
 };
 
 pub(crate) const MINIMIZE: Row = Row {
@@ -100,7 +103,7 @@ pub(crate) const MINIMIZE: Row = Row {
     usage: "hugepool minimize CONDITION.. [FILE]",
     told: MINIMIZES,
     operand: Operand::File,
-    choices: &[ANSWER, BLOCKED, MEET, FINAL],
+    choices: &[ANSWER, BLOCKED, MEET, FINAL, ANYWHERE],
 };
 
 const FORMAT: Row = Row {
@@ -130,7 +133,7 @@ const STEP: Row = Row {
     choices: &[COLOR],
 };
 
-const RACE: Row = Row {
+pub(crate) const RACE: Row = Row {
     name: "race",
     about: "Races a script: runs its tasks in threads, and prints a line for each race",
     usage: "hugepool race [OPTIONS] [FILE]",

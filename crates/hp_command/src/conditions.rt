@@ -1,5 +1,5 @@
 //! The conditions of `find` and of `minimize`.
-use crate::choices::{ANSWER, BLOCKED, FINAL, MEET};
+use crate::choices::{ANSWER, ANYWHERE, BLOCKED, FINAL, MEET};
 use crate::commands::{Row, complaint, invalid};
 use crate::options::Choice;
 use clap::error::ErrorKind;
@@ -27,8 +27,10 @@ noquota, nomemory, interrupted, killed, badfile, badrange, notmapped or noaddres
 const TASKS: &str = "T is a task, from 1";
 
 const MEETINGS: &str =
-    "T and U are tasks, and P and Q the phases of their calls, as a replay prints them after \
-moved";
+    "T and U are tasks, and P and Q the phases of their calls, as a replay prints them after moved: \
+start, look, want, locked, missing, changed, abort, taken, settle, committed, restore, found, \
+leave, room, accounted, enter, head, unslot, extend, unmap, evict, delete, free, size, tail, \
+clear or drop";
 
 const COUNTS: &str = "COUNT is resv, free or used, and N a number";
 
@@ -162,7 +164,14 @@ fn push_conditions(
     Ok(())
 }
 
-/// The conditions that are given to that command, of which there is one at least.
+// No call is in flight at the end.
+const AT_REST: Condition = Condition::Final {
+    count: PoolCount::Calls,
+    number: 0,
+};
+
+/// The conditions that are given to that command, of which there is one at least. A count at the end is one at rest, unless it is said
+/// to be one anywhere.
 pub(crate) fn read_conditions(
     alloc: Global,
     given: &ArgMatches,
@@ -179,6 +188,9 @@ pub(crate) fn read_conditions(
             ErrorKind::MissingRequiredArgument,
             "at least one condition is needed: --answer, --blocked, --meet or --final",
         )?);
+    }
+    if given.get_strs(FINAL.name).is_some() && !given.get_flag(ANYWHERE.name) {
+        conditions.push(AT_REST)?;
     }
     Ok(conditions)
 }

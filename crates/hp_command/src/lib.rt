@@ -16,6 +16,6 @@ mod view;
 
 pub use reading::read_words;
 pub use request::{
-    Asked, Input, PoolRequest, Racing, Request, Scheduling, ScriptRequest, Search, TraceRequest,
-    When,
+    Asked, EverySearch, Input, PoolRequest, Racing, Request, Scheduling, ScriptRequest, Search,
+    TraceRequest, When,
 };

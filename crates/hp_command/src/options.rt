@@ -7,7 +7,7 @@ use std::alloc::{AllocError, Global};
 pub(crate) enum Takes {
     /// Nothing: the option is given or it isn't.
     Nothing,
-    /// A number of 64 bits, or this one.
+    /// A number of 64 bits, which is read elsewhere, or this one.
     Long(&'static str),
     /// A number of 32 bits from one to another, or this one.
     Number(Option<&'static str>, i64, i64),
@@ -29,6 +29,8 @@ pub(crate) struct Choice {
     pub(crate) help: &'static str,
     /// The options that can't be given with it.
     pub(crate) conflicts: &'static [&'static str],
+    /// The options without which it can't be given.
+    pub(crate) needs: &'static [&'static str],
 }
 
 fn with_default<'a>(arg: Arg<'a>, default: Option<&'a str>) -> Arg<'a> {
@@ -43,10 +45,11 @@ fn taking<'a>(arg: Arg<'a>, takes: Takes) -> Arg<'a> {
         Takes::Nothing => arg.action(ArgAction::SetTrue),
         Takes::Long(default) => arg
             .action(ArgAction::Set)
-            .default_value(default)
-            .value_parser(clap::value_parser!(u64)),
+            .allow_negative_numbers(true)
+            .default_value(default),
         Takes::Number(default, least, most) => with_default(arg, default)
             .action(ArgAction::Set)
+            .allow_negative_numbers(true)
             .value_parser(clap::value_parser!(u32).range(least..=most)),
         Takes::Name(default, names) => arg
             .action(ArgAction::Set)
@@ -74,7 +77,7 @@ fn argument<'a>(alloc: Global, choice: &Choice) -> Result<Arg<'a>, AllocError> {
     for other in choice.conflicts {
         arg = arg.conflicts_with(*other)?;
     }
-    Ok(arg)
+    arg.requires_all(choice.needs)
 }
 
 /// Adds options to a command, in their order.

@@ -1,9 +1,10 @@
 //! The words of a command line, read.
-use crate::commands::{FIND, MINIMIZE, program};
+use crate::choices::SEED;
+use crate::commands::{EXPLORE, FIND, MINIMIZE, RACE, Row, SCHEDULE, invalid, program};
 use crate::conditions::read_conditions;
 use crate::request::{
-    Asked, Input, PoolRequest, Racing, Request, Scheduling, ScriptRequest, Search, TraceRequest,
-    When,
+    Asked, EverySearch, Input, PoolRequest, Racing, Request, Scheduling, ScriptRequest, Search,
+    TraceRequest, When,
 };
 use crate::view::read_view;
 use clap::{ArgMatches, Error};
@@ -16,8 +17,14 @@ use std::alloc::{AllocError, Global};
 use std::convert::AsStr;
 use std::num::NonZeroU32;
 
-fn seed(given: &ArgMatches) -> u64 {
-    given.get_one::<u64>("seed").unwrap_or(1)
+const SEEDS: &str = "a seed is a number from 0 to 18446744073709551615";
+
+fn seed(alloc: Global, given: &ArgMatches, row: &Row) -> Result<u64, Error> {
+    let text = given.get_str("seed").unwrap_or("1");
+    match text.parse::<u64>() {
+        Ok(seed) => Ok(seed),
+        Err(_) => Err(invalid(alloc, row, &SEED, SEEDS, text)?),
+    }
 }
 
 fn number(given: &ArgMatches, name: &str, default: u32) -> u32 {
@@ -39,55 +46,64 @@ fn audit(given: &ArgMatches) -> Audit {
     }
 }
 
-fn exploring(given: &ArgMatches) -> ScriptRequest {
-    let (seed, runs, chances) = (seed(given), number(given, "runs", 10), chances(given));
+fn exploring(alloc: Global, given: &ArgMatches) -> Result<ScriptRequest, Error> {
+    let seed = seed(alloc, given, &EXPLORE)?;
+    let (runs, chances) = (number(given, "runs", 10), chances(given));
     if given.get_flag("summary") {
-        return ScriptRequest::Summarize(Survey {
+        return Ok(ScriptRequest::Summarize(Survey {
             seed,
             runs,
             chances,
-        });
+        }));
     }
-    ScriptRequest::Explore(Exploration {
+    Ok(ScriptRequest::Explore(Exploration {
         seed,
         runs,
         chances,
         audit: audit(given),
-    })
+    }))
 }
 
-fn scheduling(given: &ArgMatches) -> ScriptRequest {
-    ScriptRequest::Schedule(Scheduling {
-        seed: seed(given),
+fn scheduling(alloc: Global, given: &ArgMatches) -> Result<ScriptRequest, Error> {
+    Ok(ScriptRequest::Schedule(Scheduling {
+        seed: seed(alloc, given, &SCHEDULE)?,
         run: number(given, "run", 0),
         chances: chances(given),
-    })
+    }))
 }
 
 fn finding(alloc: Global, given: &ArgMatches) -> Result<ScriptRequest, Error> {
     let conditions = read_conditions(alloc, given, &FIND)?;
+    if given.get_flag("every") {
+        return Ok(ScriptRequest::FindEvery(EverySearch {
+            denials: number(given, "denials", 0),
+            kills: number(given, "kills", 0),
+            states: number(given, "states", 1_000_000),
+            conditions,
+        }));
+    }
     let hunt = Hunt {
-        seed: seed(given),
+        seed: seed(alloc, given, &FIND)?,
         limit: number(given, "limit", 65_536),
         chances: chances(given),
     };
     Ok(ScriptRequest::Find(Search { hunt, conditions }))
 }
 
-fn racing(given: &ArgMatches) -> ScriptRequest {
+fn racing(alloc: Global, given: &ArgMatches) -> Result<ScriptRequest, Error> {
     let chances = race::Chances {
-        seed: seed(given),
+        seed: seed(alloc, given, &RACE)?,
         deny: number(given, "deny", 0),
         kill: number(given, "kill", 0),
     };
     if given.get_flag("trace") {
-        return ScriptRequest::Race(Racing::Trace { chances });
+        return Ok(ScriptRequest::Race(Racing::Trace { chances }));
     }
-    ScriptRequest::Race(Racing::Times {
+    Ok(ScriptRequest::Race(Racing::Times {
         times: number(given, "times", 10),
         cut: given.get_one::<u32>("cut").and_then(NonZeroU32::new),
         chances,
-    })
+    }))
 }
 
 fn working(alloc: Global, given: &ArgMatches) -> Result<PoolRequest, AllocError> {
@@ -123,11 +139,11 @@ fn drawing(given: &ArgMatches) -> TraceRequest {
 
 fn request(alloc: Global, name: &str, given: &ArgMatches) -> Result<Request, Error> {
     Ok(match name {
-        "explore" => Request::Script(exploring(given)),
+        "explore" => Request::Script(exploring(alloc, given)?),
         "check" => Request::Trace(TraceRequest::Check),
         "explain" => Request::Trace(explaining(alloc, given)?),
         "draw" => Request::Trace(drawing(given)),
-        "schedule" => Request::Script(scheduling(given)),
+        "schedule" => Request::Script(scheduling(alloc, given)?),
         "find" => Request::Script(finding(alloc, given)?),
         "minimize" => Request::Script(ScriptRequest::Minimize(read_conditions(
             alloc, given, &MINIMIZE,
@@ -135,7 +151,7 @@ fn request(alloc: Global, name: &str, given: &ArgMatches) -> Result<Request, Err
         "format" => Request::Trace(TraceRequest::Format),
         "audit" => Request::Audit,
         "step" => Request::Pool(PoolRequest::Step),
-        "race" => Request::Script(racing(given)),
+        "race" => Request::Script(racing(alloc, given)?),
         "work" => Request::Pool(working(alloc, given)?),
         _ => Request::Trace(replaying(given)),
     })

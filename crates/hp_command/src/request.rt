@@ -21,6 +21,17 @@ pub struct Search {
     pub conditions: Vec<Condition>,
 }
 
+/// What all schedules of a script are searched for.
+#[derive(Drop)]
+pub struct EverySearch {
+    /// So many steps may be denied, and so many tasks killed, in each schedule.
+    pub denials: u32,
+    pub kills: u32,
+    /// So many states are kept at once, at most.
+    pub states: u32,
+    pub conditions: Vec<Condition>,
+}
+
 /// Which races of a script are run.
 #[derive(Clone, Copy)]
 pub enum Racing {
@@ -66,6 +77,8 @@ pub enum ScriptRequest {
     Schedule(Scheduling),
     /// To read a script, and write a run of it that meets conditions as a trace.
     Find(Search),
+    /// To read a script, and write the shortest of all its schedules that meets conditions as a trace.
+    FindEvery(EverySearch),
     /// To read a trace that meets conditions, and write a small one that still does.
     Minimize(Vec<Condition>),
     /// To read a script, and race its tasks.

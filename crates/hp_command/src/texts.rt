@@ -80,8 +80,14 @@ pub(crate) const FINDS: &str =
 hugepool schedule prints it, and standard error names the run and its seed. If no run meets them, no trace is
 printed and the status is 1. At least one condition is needed. A condition on a task, call or phase that never
 occurs is not an error; no run meets it.
+With --every all schedules of the script are searched: every order in which the tasks can make their steps, with at
+most --denials failed allocations and --kills killed tasks at any place. The trace is one of the shortest. If no
+schedule meets the conditions, standard error says so and the status is 1: no seed and no number of runs finds one.
+If the limit of --states is reached first, standard error says in how many events none does, and the status is 3.
+After a fault the status is 2.
 A script has the calls that tasks make (hugepool explore --help). Some stand in examples/:
   hugepool find --answer 1:2=beyond examples/truncate-against-store.script > run.trace
+  hugepool find --every --answer 1:1=done --answer 2:1=done examples/two-files-one-quota.script
   hugepool find --blocked 2 --final resv=0 examples/truncate-against-store.script | hugepool explain";
 
 /// Of minimizing a trace.

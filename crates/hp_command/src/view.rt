@@ -6,15 +6,25 @@ use hp_explain::View;
 use std::alloc::Global;
 
 const LINE_VALUES: &str =
-    "A and B are lines of the trace, the header is line 1, and A is at most B";
+    "A and B are lines of the trace, the header is line 1, and A is at most B; A alone, A.. and ..B are allowed, too";
 
 const TASK_VALUES: &str = "tasks are numbers from 1 to 64, with commas between them";
 
-// The lines from one to another.
+// A line, or where none is named the one that is meant then.
+fn line_of(text: &str, unnamed: u32) -> Option<u32> {
+    match text {
+        "" => Some(unnamed),
+        text => text.parse().ok(),
+    }
+}
+
+// The lines from one to another, or that one alone.
 fn lines_of(text: &str) -> Option<(u32, u32)> {
-    let (first, last) = text.split_once("..")?;
-    let first: u32 = first.parse().ok()?;
-    let last: u32 = last.parse().ok()?;
+    let (first, last) = text.split_once("..").unwrap_or((text, text));
+    let (first, last) = match (first, last) {
+        ("", "") => return None,
+        (first, last) => (line_of(first, 1)?, line_of(last, u32::MAX)?),
+    };
     if first == 0 || first > last {
         return None;
     }

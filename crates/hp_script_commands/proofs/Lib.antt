@@ -1,3 +1,4 @@
 mod Answering
 mod Hunted
 mod Scheduled
+mod Searched

@@ -1,5 +1,5 @@
 -- What comes of `hugepool find` and `hugepool minimize`.
-use Rattle.std.specs.Prelude.{◌≡◌, ℕ, Bool, List, Option, Result}
+use Rattle.std.specs.Prelude.{◌≡◌, ℕ, Bool, true, false, List, Option, Result, Ok, Err}
 use Rattle.std.specs.Io.KnownBytes.{Appends}
 use Rattle.hp_base.specs.Text.{Sizes, sizes}
 use Rattle.hp_base.specs.declared.config.Config.{Config}
@@ -80,6 +80,12 @@ pub record IsMinimized (conditions : List Condition) (z : Sizes) (events : List 
   pub sized : z ≡ sizes config
   pub small : IsSmall config events conditions left
   pub spelt : text ≡ trace_text (sizes config) left
+
+-- the status of a search: 1 where nothing was found, and 2 after a fault
+abbrev pub status_of_hunt : Result Bool ReplayFault → ℕ
+status_of_hunt (Ok true) = 0
+status_of_hunt (Ok false) = 1
+status_of_hunt (Err fault) = 2
 
 -- what is answered: whether a run meets the conditions
 abbrev pub AnsweredFind : Search → Result Bool ReplayFault → Option (List ℕ) → Option (List ℕ) → (old new : ℕ)

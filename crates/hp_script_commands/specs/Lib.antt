@@ -1,4 +1,5 @@
 pub mod Hunting
 pub mod Racing
 pub mod Runs
+pub mod Searching
 pub mod Summing

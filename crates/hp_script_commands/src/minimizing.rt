@@ -9,11 +9,13 @@ ghost use Rattle.hp_text.specs.Writing.{IsWriteFault, Wrote};
 ghost use Rattle.hp_program.specs.Answers.{NotDone};
 ghost use Rattle.hp_script_commands.specs.Hunting.{AnsweredMinimize, Minimizes, MinimizesNone, MinimizesPartly};
 
+use crate::progress::{ProgressLine, Report};
 use hp_hunt::{Condition, minimize};
 use hp_program::{flush_gathered, flushed_answer, gather};
 use hp_text::{ReplayFault, Sink, Source, Trace, read_trace, write_trace};
 use std::alloc::Global;
 use std::io::Write;
+use std::time::Clock;
 
 // Writes what is left of a trace.
 fn write_small<W: Sink>(alloc: Global, small: &Trace, writer: &mut W) -> Result<bool, ReplayFault>
@@ -31,10 +33,12 @@ fn write_small<W: Sink>(alloc: Global, small: &Trace, writer: &mut W) -> Result<
 
 /// Reads a trace, and writes a small one that still meets the conditions. Tells whether the trace does.
 fn minimize_trace<R: Source, W: Sink>(
+    rt: &impl Clock,
     alloc: Global,
     conditions: &[Condition],
     reader: &mut R,
     writer: &mut W,
+    faults: &mut impl Report,
 ) -> Result<bool, ReplayFault>
     ensures ok { IfOk result (λ met. MatchBool met
         (Minimizes conditions.now (R.remaining reader.old) (R.remaining reader.new) (W.contents writer.old) (W.contents writer.new))
@@ -48,7 +52,10 @@ fn minimize_trace<R: Source, W: Sink>(
     ensures writes { OnOk result (W.failures writer.new ≡ W.failures writer.old) }
 {
     let trace = read_trace(alloc, reader)?;
-    match minimize(alloc, &trace, conditions)? {
+    let mut progress = ProgressLine::new(rt, faults);
+    let small = minimize(alloc, &trace, conditions, &mut progress);
+    progress.end();
+    match small? {
         Some(small) => write_small(alloc, &small, writer),
         None => Ok(false),
     }
@@ -56,10 +63,12 @@ fn minimize_trace<R: Source, W: Sink>(
 
 /// Minimizes a trace. Answers whether it meets the conditions. Output is buffered.
 pub fn run_minimize<R: Source, W: Write + Drop>(
+    rt: &impl Clock,
     alloc: Global,
     conditions: &[Condition],
     reader: &mut R,
     out: W,
+    faults: &mut impl Report,
 ) -> (Result<bool, ReplayFault>, Option<W>)
     ensures { AnsweredMinimize conditions.now result.0 (R.remaining reader.old) (R.remaining reader.new) (R.failures reader.old)
         (R.failures reader.new) (W.contents out) (option_map W.contents result.1) }
@@ -67,7 +76,7 @@ pub fn run_minimize<R: Source, W: Write + Drop>(
     let Ok(mut sink) = gather(alloc, out) else {
         return (Err(ReplayFault::Memory), None);
     };
-    let met = minimize_trace(alloc, conditions, reader, &mut sink);
+    let met = minimize_trace(rt, alloc, conditions, reader, &mut sink, faults);
     let (flushed, out) = flush_gathered(sink);
     (flushed_answer(met, flushed), Some(out))
 }

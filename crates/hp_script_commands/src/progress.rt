@@ -1,4 +1,6 @@
 //! How far a search is, where somebody watches.
+use hp_hunt::Shrinking;
+use hp_layers as layers;
 use hp_workers::Progress;
 use std::io;
 use std::io::{IsTerminal, Stderr, Write};
@@ -19,6 +21,9 @@ impl Report for Stderr {
 /// A search that takes less time isn't reported.
 const SOON: u64 = 500;
 
+/// So often it is said how many events are left, at most.
+const OFTEN: u64 = 100;
+
 /// A line that says how far a search is, where somebody watches and there is a clock. It is written anew as the search goes on, and
 /// erased at its end.
 #[derive(Drop)]
@@ -27,6 +32,10 @@ pub(crate) struct ProgressLine<'a, C: Clock, F: Report> {
     faults: &'a mut F,
     began: Option<Instant>,
     is_shown: bool,
+    // when it is said next how many events are left, in milliseconds
+    next: u64,
+    // of all schedules: how many states there were so far
+    states: u64,
 }
 
 // Writes how many runs were explored in so many milliseconds, and how long the others will take.
@@ -64,7 +73,16 @@ impl<'a, C: Clock, F: Report> ProgressLine<'a, C, F> {
             faults,
             began,
             is_shown: false,
+            next: SOON,
+            states: 0,
         }
+    }
+
+    /// For how many milliseconds the search goes on, where somebody watches.
+    fn milliseconds(&self) -> Option<u64> {
+        let elapsed = self.began?.elapsed(self.clock).unwrap_or(Duration::ZERO);
+        let seconds = elapsed.as_secs().saturating_mul(1000);
+        Some(seconds.saturating_add(u64::from(elapsed.subsec_millis())))
     }
 
     /// Erases the line.
@@ -75,18 +93,59 @@ impl<'a, C: Clock, F: Report> ProgressLine<'a, C, F> {
     }
 }
 
-impl<'a, C: Clock, F: Report> Progress for ProgressLine<'a, C, F> {
-    fn explored(&mut self, runs: u32, all: u32) {
-        let Some(began) = self.began else {
+// Writes how far a search among all schedules is.
+fn write_layer(
+    faults: &mut impl Write,
+    turns: u32,
+    states: u64,
+    milliseconds: u64,
+) -> io::Result<()> {
+    let rate = states.saturating_mul(1000) / milliseconds.max(1);
+    write!(
+        faults,
+        "\r\x1b[Khugepool: {turns} turns, {states} states, {rate} a second"
+    )
+}
+
+impl<'a, C: Clock, F: Report> layers::Progress for ProgressLine<'a, C, F> {
+    fn layer(&mut self, turns: u32, states: usize) {
+        self.states = self.states.saturating_add(states as u64);
+        let Some(milliseconds) = self.milliseconds() else {
             return;
         };
-        let elapsed = began.elapsed(self.clock).unwrap_or(Duration::ZERO);
-        let milliseconds = elapsed
-            .as_secs()
-            .saturating_mul(1000)
-            .saturating_add(u64::from(elapsed.subsec_millis()));
+        if milliseconds >= SOON {
+            self.is_shown = write_layer(self.faults, turns, self.states, milliseconds).is_ok();
+        }
+    }
+}
+
+impl<'a, C: Clock, F: Report> Progress for ProgressLine<'a, C, F> {
+    fn explored(&mut self, runs: u32, all: u32) {
+        let Some(milliseconds) = self.milliseconds() else {
+            return;
+        };
         if milliseconds >= SOON && runs < all {
             self.is_shown = write_progress(self.faults, runs, all, milliseconds).is_ok();
+        }
+    }
+}
+
+// Writes how many events are left after so many seconds.
+fn write_left(faults: &mut impl Write, events: usize, seconds: u64) -> io::Result<()> {
+    write!(
+        faults,
+        "\r\x1b[Khugepool: {events} events left, {seconds} s"
+    )
+}
+
+impl<'a, C: Clock, F: Report> Shrinking for ProgressLine<'a, C, F> {
+    fn left(&mut self, events: usize) {
+        let Some(milliseconds) = self.milliseconds() else {
+            return;
+        };
+        if milliseconds >= self.next {
+            self.is_shown = write_left(self.faults, events, milliseconds / 1000).is_ok();
+            self.next = milliseconds.saturating_add(OFTEN);
         }
     }
 }

@@ -37,6 +37,7 @@ palette_of_script (script.Explore exploration) = Some Runs
 palette_of_script (script.Summarize survey) = Some Outcomes
 palette_of_script (script.Schedule scheduling) = None
 palette_of_script (script.Find search) = None
+palette_of_script (script.FindEvery search) = None
 palette_of_script (script.Minimize conditions) = None
 palette_of_script (script.Race r) = palette_of_racing r
 

@@ -18,8 +18,9 @@ use Rattle.hp_pool_commands.specs.Stepping.{AnsweredStep}
 use Rattle.hp_pool_commands.specs.Working.{AnsweredTrace, AnsweredWork, status_of_work}
 use Rattle.hp_program.specs.Answers.{IfThere, status_of_runs, status_of_text}
 use Rattle.hp_program.specs.Endings.{DidReplay}
-use Rattle.hp_script_commands.specs.Hunting.{AnsweredFind, AnsweredMinimize}
+use Rattle.hp_script_commands.specs.Hunting.{AnsweredFind, AnsweredMinimize, status_of_hunt}
 use Rattle.hp_script_commands.specs.Runs.{AnsweredExplore, AnsweredRace, AnsweredSchedule, AnsweredSummary}
+use Rattle.hp_script_commands.specs.Searching.{AnsweredEvery, status_of_every}
 use Rattle.hp_text.specs.declared.fault.ReplayFault.{ReplayFault}
 use Rattle.hp_text.specs.declared.fault.ReplayFault.TheVariants.{Write}
 use Rattle.hp_trace_commands.specs.Formatting.{AnsweredFormat, status_of_format}
@@ -60,9 +61,11 @@ EndsScript (script.Summarize v) status from to old new before after =
 EndsScript (script.Schedule s) status from to old new before after =
     EndsWith status_of_text status (λ answer. AnsweredSchedule s answer from to old new before after)
 EndsScript (script.Find s) status from to old new before after =
-    EndsWith status_of_runs status (λ answer. AnsweredFind s answer from to old new before after)
+    EndsWith status_of_hunt status (λ answer. AnsweredFind s answer from to old new before after)
+EndsScript (script.FindEvery s) status from to old new before after =
+    (cut : Option ℕ) × EndsWith (status_of_every cut) status (λ answer. AnsweredEvery s cut answer from to old new before after)
 EndsScript (script.Minimize conditions) status from to old new before after =
-    EndsWith status_of_runs status (λ answer. AnsweredMinimize conditions.items answer from to old new before after)
+    EndsWith status_of_hunt status (λ answer. AnsweredMinimize conditions.items answer from to old new before after)
 EndsScript (script.Race r) status from to old new before after =
     EndsWith status_of_runs status (λ answer. AnsweredRace r answer from to old new before after)
 

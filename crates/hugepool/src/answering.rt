@@ -2,18 +2,21 @@
 ghost use Rattle.std.specs.Prelude.{◌≡◌};
 ghost use Rattle.std.specs.Option.{option_map};
 ghost use Rattle.hp_program.specs.Answers.{status_of_runs, status_of_text};
+ghost use Rattle.hp_script_commands.specs.Hunting.{status_of_hunt};
 ghost use Rattle.hugepool.specs.Requests.{Ends, EndsPool, EndsScript, EndsTrace};
 ghost use Rattle.hugepool.specs.Status.{status_at};
 
 use crate::stop::{
-    Missed, Stop, stop_of_audit, stop_of_format, stop_of_runs, stop_of_text, stop_of_work,
+    Missed, Stop, stop_of_audit, stop_of_every, stop_of_format, stop_of_hunt, stop_of_runs,
+    stop_of_text, stop_of_work,
 };
 use hp_command::{PoolRequest, Request, ScriptRequest, TraceRequest};
 use hp_picture_commands::run_audit;
 use hp_pool_commands::{WorkWords, run_step, run_trace_work, run_work};
 use hp_program::run_replay;
 use hp_script_commands::{
-    Report, run_explore, run_find, run_minimize, run_race, run_schedule, run_summarize,
+    Report, run_explore, run_find, run_find_every, run_minimize, run_race, run_schedule,
+    run_summarize,
 };
 use hp_text::{ReplayFault, Source};
 use hp_trace_commands::{run_check, run_draw, run_explain, run_explain_json, run_format, run_page};
@@ -41,6 +44,17 @@ fn runs<W>(
     ensures out { result.1 ≡ ran.1 }
 {
     (stop_of_runs(ran.0, missed), ran.1)
+}
+
+// What a command answers that searches for something, and its output.
+fn hunted<W>(
+    ran: (Result<bool, ReplayFault>, Option<W>),
+    missed: Missed,
+) -> (Result<(), Stop>, Option<W>)
+    ensures stop { status_at result.0 ≡ status_of_hunt ran.0 }
+    ensures out { result.1 ≡ ran.1 }
+{
+    (stop_of_hunt(ran.0, missed), ran.1)
 }
 
 // What is answered to a request for something to be done with a trace.
@@ -91,12 +105,17 @@ fn answer_script<H: Clock + Threads + Wait + Sync, R: Source, W: Write + Drop>(
         ScriptRequest::Schedule(scheduling) => {
             text(run_schedule(alloc, scheduling, reader, out, faults))
         }
-        ScriptRequest::Find(search) => runs(
+        ScriptRequest::Find(search) => hunted(
             run_find(rt, alloc, &search, reader, out, faults),
             Missed::Runs(search.hunt.limit),
         ),
-        ScriptRequest::Minimize(conditions) => runs(
-            run_minimize(alloc, conditions.as_slice(), reader, out),
+        ScriptRequest::FindEvery(search) => {
+            let mut cut = None;
+            let (met, out) = run_find_every(rt, alloc, &search, reader, out, &mut cut, faults);
+            (stop_of_every(met, cut), out)
+        }
+        ScriptRequest::Minimize(conditions) => hunted(
+            run_minimize(rt, alloc, conditions.as_slice(), reader, out, faults),
             Missed::Trace,
         ),
         ScriptRequest::Race(racing) => runs(

@@ -43,6 +43,7 @@ fn palette_of_script(request: &ScriptRequest) -> Option<Palette>
         ScriptRequest::Race(Racing::Trace { .. })
         | ScriptRequest::Schedule(_)
         | ScriptRequest::Find(_)
+        | ScriptRequest::FindEvery(_)
         | ScriptRequest::Minimize(_) => None,
     }
 }

@@ -1,8 +1,10 @@
 //! Hints on standard error: what else would serve.
+use crate::input::file_of;
 use crate::stop::Stop;
 use hp_base::{Event, Op};
-use hp_diagnostics::{Line, Recalls};
-use hp_format::{asked_of, tidy};
+use hp_command::{Input, Request, ScriptRequest, TraceRequest};
+use hp_diagnostics::{Line, Recalls, WrongLine};
+use hp_format::{Asked, LooseFault, Reason, asked_of, tidy};
 use hp_text::{ReplayFault, header_at};
 use std::alloc::{AllocError, Global};
 use std::io::Write;
@@ -10,8 +12,11 @@ use std::io::Write;
 // The number of the line at which the reader stopped, if it stopped at one.
 fn line_of(answer: &Result<(), Stop>) -> Option<u64> {
     match answer {
-        Err(Stop::Replay(ReplayFault::BadHeader)) => Some(1),
-        Err(Stop::Replay(ReplayFault::BadLine(number))) => Some(u64::from(*number)),
+        Err(Stop::Replay(fault) | Stop::Untold(fault)) => match fault {
+            ReplayFault::BadHeader => Some(1),
+            ReplayFault::BadLine(number) => Some(u64::from(*number)),
+            _ => None,
+        },
         _ => None,
     }
 }
@@ -25,22 +30,111 @@ fn unmarked(line: &[u8]) -> &[u8] {
     }
 }
 
-// Whether the line of that number is right in the loose form of a trace. Nothing at all isn't.
-fn is_loose(alloc: Global, line: Line, number: u64) -> Result<bool, AllocError> {
+// What a command reads.
+#[derive(Clone, Copy, PartialEq, Eq)]
+enum Reads {
+    // a strict trace
+    Trace,
+    // a strict script, whose events are all begins
+    Script,
+    // neither
+    Other,
+}
+
+// Whether a line of the loose form asks for what such a command reads.
+fn is_read(asked: &Asked, reads: Reads) -> bool {
+    match asked {
+        Asked::Nothing | Asked::Times(Event::Begin(_, _), _) => reads != Reads::Other,
+        Asked::Times(_, _) | Asked::Until(_, _) => reads == Reads::Trace,
+    }
+}
+
+// Whether the line of that number is right in the loose form. Nothing at all isn't.
+fn is_loose(alloc: Global, line: Line, number: u64, reads: Reads) -> Result<bool, AllocError> {
     // The checker of borrows asks for a mention of the types that a line may ask for.
     let _none: (Option<Event>, Option<Op>) = (None, None);
     let mut words = Vec::new(alloc);
     if number > 1 {
-        return Ok(asked_of(line.bytes, &mut words)?.is_some());
+        return Ok(match asked_of(line.bytes, &mut words)? {
+            Some(asked) => is_read(&asked, reads),
+            None => false,
+        });
     }
     tidy(unmarked(line.bytes), &mut words)?;
     let is_blank = line.is_ended && words.is_empty();
     Ok(is_blank || header_at(words.as_slice()).is_some())
 }
 
-/// Names `hugepool format`, if it reads the line at which the strict reader stopped.
-pub(crate) fn hint_format<R: Recalls>(
+// Whether the first line is the header of a script whose calls wait, which the loose form lacks.
+fn waits<R: Recalls>(reader: &R) -> bool {
+    match reader.line(1) {
+        Some(line) => line.bytes.starts_with(b"script"),
+        None => false,
+    }
+}
+
+// Whether the reader gave nothing, and the command that reads it stopped at that.
+fn is_empty<R: Recalls>(answer: &Result<(), Stop>, reader: &R) -> bool {
+    let stopped = match answer {
+        Err(Stop::Replay(_) | Stop::Untold(_)) => line_of(answer) == Some(1),
+        Err(Stop::Loose(_) | Stop::Picture(_)) => true,
+        _ => false,
+    };
+    match reader.line(1) {
+        Some(line) => stopped && line.bytes.is_empty() && !line.is_ended,
+        None => false,
+    }
+}
+
+/// Says what may have gone wrong before, if nothing was read from standard input.
+pub(crate) fn hint_empty<R: Recalls>(
+    answer: &Result<(), Stop>,
+    input: &Input,
+    reader: &R,
+    faults: &mut impl Write,
+) {
+    if file_of(input).is_none() && is_empty(answer, reader) {
+        let _ = faults.write_all(EMPTY);
+    }
+}
+
+const EMPTY: &[u8] = b"hugepool: if another command writes it, that command may have failed\n";
+
+// Whether the header is wrong, or else an event, if one of them is.
+fn wrong_header(why: &Reason) -> Option<bool> {
+    match why {
+        Reason::Header => Some(true),
+        Reason::NoEvent => Some(false),
+        _ => None,
+    }
+}
+
+/// Says what is wrong with the line of the loose form at which its reader stopped, if the line is recalled.
+pub(crate) fn tell_loose<R: Recalls>(
     alloc: Global,
+    answer: &Result<(), Stop>,
+    reader: &R,
+    faults: &mut impl Write,
+) {
+    let Err(Stop::Loose(LooseFault::Line(number, why))) = answer else {
+        return;
+    };
+    let (Some(is_header), Some(line)) = (wrong_header(why), reader.line(*number)) else {
+        return;
+    };
+    let mut words = Vec::new(alloc);
+    if tidy(unmarked(line.bytes), &mut words).is_err() {
+        return;
+    }
+    if let Some(wrong) = WrongLine::of_loose(words.as_slice(), *number, is_header) {
+        let _ = writeln!(faults, "hugepool: {wrong}");
+    }
+}
+
+// Names `hugepool format`, if it reads the line at which the strict reader stopped.
+fn hint_format<R: Recalls>(
+    alloc: Global,
+    reads: Reads,
     answer: &Result<(), Stop>,
     reader: &R,
     faults: &mut impl Write,
@@ -51,7 +145,8 @@ pub(crate) fn hint_format<R: Recalls>(
     let Some(line) = reader.line(number) else {
         return;
     };
-    if matches!(is_loose(alloc, line, number), Ok(true)) {
+    let is_loose = matches!(is_loose(alloc, line, number, reads), Ok(true));
+    if is_loose && reads != Reads::Other && !waits(reader) {
         let _ = faults.write_all(LOOSE);
     }
 }
@@ -74,12 +169,8 @@ fn begins_alone<R: Recalls>(reader: &R) -> bool {
     false
 }
 
-/// Names the commands that run a script, if a trace was shown that has begins alone.
-pub(crate) fn hint_script<R: Recalls>(
-    answer: &Result<(), Stop>,
-    reader: &R,
-    faults: &mut impl Write,
-) {
+// Names the commands that run a script, if a trace was shown that has begins alone.
+fn hint_script<R: Recalls>(answer: &Result<(), Stop>, reader: &R, faults: &mut impl Write) {
     if answer.is_ok() && begins_alone(reader) {
         let _ = faults.write_all(SCRIPT);
     }
@@ -87,3 +178,122 @@ pub(crate) fn hint_script<R: Recalls>(
 
 const SCRIPT: &[u8] =
     b"hugepool: no event is a step; if this is a script, hugepool explore and hugepool schedule run it\n";
+
+// More events than a picture shows well.
+const MANY: u64 = 5_000;
+
+// Names the page, if a picture of many events was drawn.
+fn hint_page<R: Recalls>(answer: &Result<(), Stop>, reader: &R, faults: &mut impl Write) {
+    if answer.is_ok() && reader.ended().is_some_and(|lines| lines > MANY + 1) {
+        let _ = faults.write_all(PAGE);
+    }
+}
+
+const PAGE: &[u8] =
+    b"hugepool: a page shows a trace of so many events better: hugepool draw --html\n";
+
+// The last task of those that are asked for.
+fn last_task(tasks: u64) -> u32 {
+    64 - tasks.leading_zeros()
+}
+
+// Says which tasks the pool has, if rows of another were asked for.
+fn hint_tasks<R: Recalls>(
+    tasks: u64,
+    answer: &Result<(), Stop>,
+    reader: &R,
+    faults: &mut impl Write,
+) {
+    let (Ok(()), Some(line)) = (answer, reader.line(1)) else {
+        return;
+    };
+    let last = last_task(tasks);
+    match header_at(line.bytes) {
+        Some(config) if last > config.tasks => {
+            let _ = writeln!(
+                faults,
+                "hugepool: the pool has no task {last}, its tasks are 1 to {}",
+                config.tasks
+            );
+        }
+        _ => {}
+    }
+}
+
+/// Which hints a request may need, once it is answered.
+#[derive(Clone, Copy)]
+pub(crate) struct Hints {
+    reads: Reads,
+    // it is shown how a trace runs
+    shows_run: bool,
+    // a picture is drawn
+    draws: bool,
+    // the tasks of which rows are asked for, as bits
+    tasks: u64,
+}
+
+// The tasks of which rows are asked for, as bits.
+fn tasks_of(request: &TraceRequest) -> u64 {
+    match request {
+        TraceRequest::Explain(view) | TraceRequest::ExplainJson(view) => view.tasks,
+        _ => 0,
+    }
+}
+
+// Of what is done with a trace.
+fn of_trace(request: &TraceRequest) -> Hints {
+    let (reads, shows_run) = match request {
+        TraceRequest::Replay | TraceRequest::Explain(_) | TraceRequest::Draw | TraceRequest::Page =>
+            (Reads::Trace, true),
+        TraceRequest::Check | TraceRequest::ExplainJson(_) => (Reads::Trace, false),
+        TraceRequest::Format => (Reads::Other, false),
+    };
+    Hints {
+        reads,
+        shows_run,
+        draws: matches!(request, TraceRequest::Draw),
+        tasks: tasks_of(request),
+    }
+}
+
+// What is read for a request that is none for something to be done with a trace.
+fn reads_of(request: &Request) -> Reads {
+    match request {
+        Request::Script(ScriptRequest::Minimize(_)) => Reads::Trace,
+        Request::Script(_) => Reads::Script,
+        _ => Reads::Other,
+    }
+}
+
+impl Hints {
+    /// Those of a request.
+    pub(crate) fn of(request: &Request) -> Hints {
+        match request {
+            Request::Trace(request) => of_trace(request),
+            other => Hints {
+                reads: reads_of(other),
+                shows_run: false,
+                draws: false,
+                tasks: 0,
+            },
+        }
+    }
+
+    /// Gives those that serve. Whether they can be given changes nothing.
+    pub(crate) fn give<R: Recalls>(
+        self,
+        alloc: Global,
+        answer: &Result<(), Stop>,
+        reader: &R,
+        faults: &mut impl Write,
+    ) {
+        hint_format(alloc, self.reads, answer, reader, faults);
+        if self.shows_run {
+            hint_script(answer, reader, faults);
+        }
+        if self.draws {
+            hint_page(answer, reader, faults);
+        }
+        hint_tasks(self.tasks, answer, reader, faults);
+    }
+}

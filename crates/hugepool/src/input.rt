@@ -23,6 +23,14 @@ impl Read for Opened {
     }
 }
 
+/// The name of the file that is read, if one is.
+pub(crate) fn file_of(input: &Input) -> Option<&str> {
+    match input {
+        Input::File(path) if path.as_str() != "-" => Some(path.as_str()),
+        Input::File(_) | Input::Standard | Input::Nothing => None,
+    }
+}
+
 /// What is asked for is opened. A file of the name `-` is standard input, too. If the file can't be opened, that is reported, and there
 /// is none.
 pub(crate) fn open_input(
@@ -33,10 +41,10 @@ pub(crate) fn open_input(
     let Ok(asked) = asked else {
         return Some(Opened::Standard(rt.stdin()));
     };
-    match &asked.input {
-        Input::File(path) if path.as_str() != "-" => open_file(rt, path.as_str(), faults),
-        Input::File(_) | Input::Standard => Some(Opened::Standard(standard(rt, faults))),
-        Input::Nothing => Some(Opened::Standard(rt.stdin())),
+    match (file_of(&asked.input), &asked.input) {
+        (Some(path), _) => open_file(rt, path, faults),
+        (None, Input::Nothing) => Some(Opened::Standard(rt.stdin())),
+        (None, _) => Some(Opened::Standard(standard(rt, faults))),
     }
 }
 

@@ -17,7 +17,7 @@ use colouring::chosen_palette;
 use hp_command::read_words;
 use hp_diagnostics::Recalling;
 use hp_paint::Painted;
-use hp_program::{Noted, write_error};
+use hp_program::{LEFT, Noted, has_left, write_error};
 use hp_text::Watched;
 use input::open_input;
 use program::program;
@@ -37,11 +37,14 @@ fn main(rt: HostRuntime) -> io::Result<ExitCode> {
     };
     let mut reader = Recalling::new(Watched::new(Noted::new(input)));
     let palette = chosen_palette(&rt, &asked);
-    let out = Painted::new(rt.alloc(), Noted::new(rt.stdout()), palette);
+    let out = Noted::new(Painted::new(rt.alloc(), rt.stdout(), palette));
     let (status, out) = program(&rt, rt.alloc(), asked, &mut reader, out, &mut faults);
+    if has_left(&out) {
+        return Ok(ExitCode::from(LEFT));
+    }
     if status != 0 {
         let reading = reader.into_inner().into_inner().error();
-        let writing = out.and_then(|out| out.failed().or(out.into_inner().error()));
+        let writing = out.and_then(|out| out.error());
         let _ = write_error(reading, writing, &mut faults);
     }
     Ok(ExitCode::from(status))

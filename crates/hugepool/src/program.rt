@@ -6,12 +6,13 @@ ghost use Rattle.hugepool.specs.Requests.{AnsweredHelp, Ends, EndsAsAsked, EndsU
 ghost use Rattle.hugepool.specs.Status.{status_at, status_of};
 
 use crate::answering::answer;
-use crate::hinting::{hint_format, hint_script};
+use crate::hinting::{Hints, hint_empty, tell_loose};
+use crate::input::file_of;
 use crate::stop::{Stop, stop_of_text};
 use clap::error::ErrorKind;
-use hp_command::{Asked, Request, ScriptRequest, TraceRequest};
+use hp_command::{Asked, Input, Request};
 use hp_diagnostics::Recalls;
-use hp_program::write_fault;
+use hp_program::{Heard, has_left, write_fault};
 use hp_script_commands::Report;
 use hp_text::{ReplayFault, Source};
 use std::alloc::Global;
@@ -23,12 +24,12 @@ use std::thread::Threads;
 use std::time::Clock;
 
 /// Does on these streams what is asked for, and returns the status: 0 where it was done, 1 after a fault, 2 where nothing is asked for.
-/// A fault is one line on `faults`, and behind that of a line what is wrong with it, where the reader recalls the line. The output is
-/// handed back, unless it went with a buffer for which there was no memory.
+/// A fault is one line on `faults`, and behind that of a line what is wrong with it, where the reader recalls the line. If the reader of
+/// the output has left, nothing is said. The output is handed back, unless it went with a buffer for which there was no memory.
 pub(crate) fn program<
     H: Clock + Files + Threads + Wait + Sync,
     R: Source + Recalls,
-    W: Write + Drop,
+    W: Heard + Drop,
 >(
     rt: &H,
     alloc: Global,
@@ -41,16 +42,19 @@ pub(crate) fn program<
         (R.failures reader.new) (W.contents out) (option_map W.contents result.1) }
 {
     match asked {
-        Ok(asked) => carry_out(rt, alloc, asked.request, reader, out, faults),
+        Ok(Asked { request, input, .. }) => {
+            carry_out(rt, alloc, request, &input, reader, out, faults)
+        }
         Err(error) => refuse(error, &*reader, out, faults),
     }
 }
 
 // Does what is asked for.
-fn carry_out<H: Clock + Files + Threads + Wait + Sync, R: Source + Recalls, W: Write + Drop>(
+fn carry_out<H: Clock + Files + Threads + Wait + Sync, R: Source + Recalls, W: Heard + Drop>(
     rt: &H,
     alloc: Global,
     request: Request,
+    input: &Input,
     reader: &mut R,
     out: W,
     faults: &mut impl Report,
@@ -58,69 +62,62 @@ fn carry_out<H: Clock + Files + Threads + Wait + Sync, R: Source + Recalls, W: W
     ensures { Ends request result.0 (R.remaining reader.old) (R.remaining reader.new) (R.failures reader.old)
         (R.failures reader.new) (W.contents out) (option_map W.contents result.1) }
 {
-    let (reads_trace, shows_run) = (reads_trace(&request), shows_run(&request));
+    let hints = Hints::of(&request);
     let (answer, out) = answer(rt, alloc, request, reader, out, faults);
-    let status = end(&answer, &*reader, faults);
-    if reads_trace {
-        hint_format(alloc, &answer, &*reader, faults);
+    if has_left(&out) {
+        return (status_at(&answer), out);
     }
-    if shows_run {
-        hint_script(&answer, &*reader, faults);
-    }
+    let status = end(&answer, file_of(input), &*reader, faults);
+    tell_loose(alloc, &answer, &*reader, faults);
+    hint_empty(&answer, input, &*reader, faults);
+    hints.give(alloc, &answer, &*reader, faults);
     (status, out)
 }
 
-// Whether a strict trace is read.
-fn reads_trace(request: &Request) -> bool {
-    matches!(
-        request,
-        Request::Trace(
-            TraceRequest::Replay
-                | TraceRequest::Check
-                | TraceRequest::Explain(_)
-                | TraceRequest::ExplainJson(_)
-                | TraceRequest::Draw
-                | TraceRequest::Page
-        ) | Request::Script(ScriptRequest::Minimize(_))
-    )
-}
-
-// Whether it is shown how a trace runs.
-fn shows_run(request: &Request) -> bool {
-    matches!(
-        request,
-        Request::Trace(
-            TraceRequest::Replay
-                | TraceRequest::Explain(_)
-                | TraceRequest::Draw
-                | TraceRequest::Page
-        )
-    )
-}
-
-// The status of an answer, whose fault is told. Whether it can be told changes nothing.
-fn end<R: Recalls>(answer: &Result<(), Stop>, reader: &R, faults: &mut impl Write) -> u8
+// The status of an answer.
+fn status_at(answer: &Result<(), Stop>) -> u8
     ensures { result ≡ status_at answer.now }
 {
     match answer {
         Ok(()) => 0,
-        Err(stop) => {
-            let _ = tell(stop, reader, faults);
-            stop.status()
-        }
+        Err(stop) => stop.status(),
     }
 }
 
-// Writes the lines of a fault.
-fn tell<R: Recalls>(stop: &Stop, reader: &R, faults: &mut impl Write) -> io::Result<()> {
-    match stop {
-        Stop::Replay(fault) | Stop::Unaudited(fault) => write_fault(*fault, reader, faults),
+// The status of an answer, whose fault is told. Whether it can be told changes nothing.
+fn end<R: Recalls>(
+    answer: &Result<(), Stop>,
+    file: Option<&str>,
+    reader: &R,
+    faults: &mut impl Write,
+) -> u8
+    ensures { result ≡ status_at answer.now }
+{
+    if let Err(stop) = answer {
+        let _ = tell(stop, file, reader, faults);
+    }
+    status_at(answer)
+}
+
+// Writes the lines of a fault, which name the file that was read if there is one.
+fn tell<R: Recalls>(
+    stop: &Stop,
+    file: Option<&str>,
+    reader: &R,
+    faults: &mut impl Write,
+) -> io::Result<()> {
+    match (stop, file) {
+        (Stop::Replay(fault) | Stop::Untold(fault), file) => {
+            write_fault(*fault, file, reader, faults)
+        }
+        (Stop::Loose(fault), Some(file)) => writeln!(faults, "hugepool: {file}: {fault}"),
+        (Stop::Picture(fault), Some(file)) => writeln!(faults, "hugepool: {file}: {fault}"),
         _ => write!(faults, "{stop}"),
     }
 }
 
 // Writes what is asked for as an error, help or the version, or tells why nothing is asked for.
-fn refuse<R: Source + Recalls, W: Write + Drop>(
+fn refuse<R: Source + Recalls, W: Heard + Drop>(
     error: clap::Error,
     reader: &R,
     mut out: W,
@@ -132,11 +129,14 @@ fn refuse<R: Source + Recalls, W: Write + Drop>(
     match error.kind() {
         ErrorKind::DisplayHelp | ErrorKind::DisplayVersion => {
             let answer = stop_of_text(write_help(&error, &mut out));
-            (end(&answer, reader, faults), Some(out))
+            if out.has_left() {
+                return (status_at(&answer), Some(out));
+            }
+            (end(&answer, None, reader, faults), Some(out))
         }
         _ => {
             let answer = Err(no_request(error));
-            (end(&answer, reader, faults), Some(out))
+            (end(&answer, None, reader, faults), Some(out))
         }
     }
 }

@@ -3,6 +3,8 @@ ghost use Rattle.std.specs.Prelude.{◌≡◌};
 ghost use Rattle.hp_picture_commands.specs.Auditing.{status_of_audit};
 ghost use Rattle.hp_pool_commands.specs.Working.{status_of_work};
 ghost use Rattle.hp_program.specs.Answers.{status_of_runs, status_of_text};
+ghost use Rattle.hp_script_commands.specs.Hunting.{status_of_hunt};
+ghost use Rattle.hp_script_commands.specs.Searching.{status_of_every};
 ghost use Rattle.hp_trace_commands.specs.Formatting.{status_of_format};
 ghost use Rattle.hugepool.specs.Status.{status_at, status_of};
 
@@ -26,9 +28,12 @@ pub(crate) enum Stop {
     #[error("hugepool: {0}\n")]
     Loose(LooseFault),
     #[error("{0}")]
-    Unaudited(ReplayFault),
+    Untold(ReplayFault),
     #[error("hugepool: {0}\n")]
     Picture(PictureFault),
+    /// The limits ran out: no schedule of fewer events meets the conditions.
+    #[error("hugepool: the limit of --states was reached: no schedule of fewer than {0} events meets all conditions\n")]
+    Cut(u32),
 }
 
 /// What was asked for, and isn't so.
@@ -43,6 +48,9 @@ pub(crate) enum Missed {
     /// One of so many runs meets the conditions.
     #[error("hugepool: no run meets all conditions (runs explored: {0})\n")]
     Runs(u32),
+    /// A schedule meets the conditions.
+    #[error("hugepool: no schedule meets all conditions\n")]
+    Schedules,
     /// The trace meets the conditions.
     #[error("hugepool: the trace doesn't meet all conditions\n")]
     Trace,
@@ -54,7 +62,8 @@ impl Stop {
         ensures { result ≡ status_of self.now }
     {
         match self {
-            Stop::Usage(_) | Stop::Unaudited(_) | Stop::Picture(_) => 2,
+            Stop::Usage(_) | Stop::Untold(_) | Stop::Picture(_) => 2,
+            Stop::Cut(_) => 3,
             Stop::Replay(_) | Stop::Missed(_) | Stop::Loose(_) => 1,
             Stop::Work(fault) => fault.status(),
         }
@@ -82,6 +91,26 @@ pub(crate) fn stop_of_runs(answer: Result<bool, ReplayFault>, missed: Missed) ->
     }
 }
 
+/// Of a command that searches for something: a fault isn't taken for an answer.
+pub(crate) fn stop_of_hunt(answer: Result<bool, ReplayFault>, missed: Missed) -> Result<(), Stop>
+    ensures { status_at result ≡ status_of_hunt answer }
+{
+    match answer {
+        Ok(is_found) => stop_of_runs(Ok(is_found), missed),
+        Err(why) => Err(Stop::Untold(why)),
+    }
+}
+
+/// Of a search among all schedules.
+pub(crate) fn stop_of_every(answer: Result<bool, ReplayFault>, cut: Option<u32>) -> Result<(), Stop>
+    ensures { status_at result ≡ status_of_every cut answer }
+{
+    match (answer, cut) {
+        (Ok(false), Some(turns)) => Err(Stop::Cut(turns)),
+        (answer, _) => stop_of_hunt(answer, Missed::Schedules),
+    }
+}
+
 /// Of `format`.
 pub(crate) fn stop_of_format(answer: Result<(), LooseFault>) -> Result<(), Stop>
     ensures { status_at result ≡ status_of_format answer }
@@ -99,7 +128,7 @@ pub(crate) fn stop_of_audit(answer: Result<bool, PictureFault>) -> Result<(), St
 {
     match answer {
         Ok(right) => stop_of_runs(Ok(right), Missed::Findings),
-        Err(PictureFault::Stream(why)) => Err(Stop::Unaudited(why)),
+        Err(PictureFault::Stream(why)) => Err(Stop::Untold(why)),
         Err(fault) => Err(Stop::Picture(fault)),
     }
 }

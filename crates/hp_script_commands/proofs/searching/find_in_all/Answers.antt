@@ -1,0 +1,71 @@
+use Rattle.std.proofs.Common.{◌≡◌, ℕ, ◌≤◌, List, length, subst}
+use Rattle.std.proofs.KnownBytes.{Keeps-refl}
+use Rattle.hp_every.specs.Schedules.{IsShortest, NoScheduleMeets, ScheduleMeets}
+use Rattle.hp_every.specs.Search.{Ask}
+use Rattle.hp_hunt.specs.declared.condition.Condition.{Condition}
+use Rattle.hp_script_commands.proofs.Searched.{answer_cut, answer_met, answer_never, finds_every, finds_every_short}
+use Rattle.hp_watch.specs.Moments.{Moment}
+use Rattle.hp_script_commands.proofs.searching.find_in_all.Goals as goal
+
+pub returns-in-Met-clause-ok : goal.returns-in-Met-clause-ok
+returns-in-Met-clause-ok g c =
+    let a : Ask = record {
+      script = c.in_ok-script.script;
+      denials = c.args.search.now.denials;
+      kills = c.args.search.now.kills;
+      conditions = c.as_slice-conditions.result.now;
+    } in
+    let found = answer_met a c.in_ok-trace.field-0 c.in-Met.trace c.in-Met.is c.in_ok-trace.ensures.answer in
+    let is = subst (λ (cs : List Condition). IsShortest a.script a.denials a.kills cs c.in-Met.trace.events.items)
+    c.as_slice-conditions.ensures.value found.0 in
+    finds_every c.args.search.now _ _ _ _ _ a.script c.in-Met.trace c.in_ok-script.ensures.ok is found.1 c.write_shortest.result
+    c.write_shortest.ensures.ok c.write_shortest.ensures.met
+
+pub returns-in-Met-clause-err : goal.returns-in-Met-clause-err
+returns-in-Met-clause-err g c =
+    let a : Ask = record {
+      script = c.in_ok-script.script;
+      denials = c.args.search.now.denials;
+      kills = c.args.search.now.kills;
+      conditions = c.as_slice-conditions.result.now;
+    } in
+    let found = answer_met a c.in_ok-trace.field-0 c.in-Met.trace c.in-Met.is c.in_ok-trace.ensures.answer in
+    let is = subst (λ (cs : List Condition). IsShortest a.script a.denials a.kills cs c.in-Met.trace.events.items)
+    c.as_slice-conditions.ensures.value found.0 in
+    finds_every_short c.args.search.now c.args.cut.now _ _ _ _ a.script c.in-Met.trace c.in_ok-script.ensures.ok is found.1
+    c.write_shortest.result _ _ c.write_shortest.ensures.err c.write_shortest.ensures.writes
+
+pub returns-in-Never-clause-ok : goal.returns-in-Never-clause-ok
+returns-in-Never-clause-ok g c =
+    let a : Ask = record {
+      script = c.in_ok-script.script;
+      denials = c.args.search.now.denials;
+      kills = c.args.search.now.kills;
+      conditions = c.as_slice-conditions.result.now;
+    } in (
+      record {
+        script = a.script;
+        reads = c.in_ok-script.ensures.ok;
+        none = subst (λ (cs : List Condition). NoScheduleMeets a.script a.denials a.kills cs) c.as_slice-conditions.ensures.value
+            (answer_never a c.in_ok-trace.field-0 c.in-Never.is c.in_ok-trace.ensures.answer);
+      },
+      Keeps-refl _,
+    )
+
+pub returns-clause-ok : goal.returns-clause-ok
+returns-clause-ok g c =
+    let a : Ask = record {
+      script = c.in_ok-script.script;
+      denials = c.args.search.now.denials;
+      kills = c.args.search.now.kills;
+      conditions = c.as_slice-conditions.result.now;
+    } in (
+      record {
+        script = a.script;
+        reads = c.in_ok-script.ensures.ok;
+        none = subst (λ (cs : List Condition). (moments : List Moment) → ScheduleMeets a.script a.denials a.kills cs moments
+            → c.in-Cut.turns ≤ length moments) c.as_slice-conditions.ensures.value
+            (answer_cut a c.in_ok-trace.field-0 c.in-Cut.turns c.in-Cut.is c.in_ok-trace.ensures.answer);
+      },
+      Keeps-refl _,
+    )
