@@ -22,7 +22,7 @@ machine() {
     # (the summary, which is written by hand, stays)
     sed '/^Written by /,$d' docs/BENCHMARKS.md
     printf 'Written by `bench/all.sh`, in one run.\n%s\n' "$(machine)"
-    for bench in replay steps explore summary pool library; do
+    for bench in replay steps explore summary every pool library; do
         echo "bench/$bench.sh" >&2
         printf '\n## `bench/%s.sh`\n\n%s\n\n```text\n' "$bench" "$(told "bench/$bench.sh")"
         "bench/$bench.sh"

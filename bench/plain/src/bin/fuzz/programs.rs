@@ -83,6 +83,9 @@ fn first_difference(ours: &[u8], theirs: &[u8]) -> String {
 // The line that ours adds where the line that is wrong would be right in the loose form of a trace.
 const HINT: &[u8] = b"hugepool: hugepool format accepts this line, and prints a trace that this command accepts\n";
 
+// The reason and the hint where nothing came.
+const EMPTY: &[u8] = b"hugepool: the input is empty\nhugepool: if another command writes it, that command may have failed\n";
+
 // What ours says where each event of a trace begins a call.
 const SCRIPT: &[u8] = b"hugepool: no event is a step; if this is a script, hugepool explore and hugepool schedule run it\n";
 
@@ -93,6 +96,7 @@ fn without_reason(ours: &[u8]) -> Option<&[u8]> {
     if !ours.starts_with(b"hugepool: line ") { return Some(ours); }
     let end = ours.iter().position(|it| *it == b'\n')? + 1;
     let (first, reason) = ours.split_at(end);
+    if reason == EMPTY { return Some(first); }
     let reason = reason.strip_suffix(HINT).unwrap_or(reason);
     let is_one_line = reason.iter().position(|it| *it == b'\n') == reason.len().checked_sub(1);
     (is_one_line && reason.starts_with(b"hugepool: ")).then_some(first)

@@ -1,0 +1,172 @@
+#!/usr/bin/env python3
+"""Compares `hugepool find --every` with a search written apart (schedules.py), on small scripts.
+
+usage: every.py [--scripts N] [--seed N] [--states N] [--program PATH]
+
+A few scripts are fixed, and N are random. Each is searched with no denial and no kill, with one denial, and with one
+kill. Asked is for each answer that some call may give, some that none gives, each final count, each task that waits,
+some phases that meet, and some pairs of these. Both have to say the same: whether a schedule meets them, and in how many
+events. The trace has to be a schedule of the search, and no random run that `find` finds may be shorter. The status is 1
+after a difference.
+"""
+import argparse
+import random
+import subprocess
+import sys
+from collections import Counter
+from itertools import product
+
+from compare import tested
+from schedules import facts_of, opening, read_script, search, turns
+
+# denials and kills
+BUDGETS = ((0, 0), (1, 0), (0, 1))
+WORDS = ("mapped", "word", "done", "segv", "beyond", "noframe", "nomemory", "interrupted", "killed", "badfile", "badrange")
+WORDS += ("notmapped", "noaddress", "noquota")
+
+# a delete that wants memory; begins that are refused; a task that is held up; a call that waits; quota and frames lack both;
+# pages beyond the size
+FIXED = (
+    "pool 5 1 4 1\nbegin 1 map 0 0 3\nbegin 1 store 1 1\nbegin 1 map 0 6 1\nbegin 1 punch 0 1 1\n",
+    "pool 4 1 4 1\nbegin 1 map 0 0 2\nbegin 1 load 0\nbegin 1 exit\nbegin 1 load 1\n",
+    "pool 2 1 1 2\nbegin 1 map 0 0 1\nbegin 2 map 0 0 1\n",
+    "script 2 1 1 2\nbegin 1 map 0 0 1\nafter 1\nbegin 2 trunc 0 0\n",
+    "pool 1 1 1 1 1\nbegin 1 map 0 0 2\n",
+    "pool 2 1 1 1\nbegin 1 allock 0 0 1\nbegin 1 trunc 0 0\n",
+)
+
+
+def random_call(dice, files):
+    file, first, length, page = dice.randrange(files), dice.randint(0, 1), dice.randint(1, 2), dice.randint(0, 2)
+    pages = f"{file} {first} {length}"
+    return dice.choice((
+        *[f"map {pages}"] * 4, f"mapn {pages}", *[f"load {page}"] * 2, *[f"store {page} {dice.randint(1, 2)}"] * 4,
+        f"alloc {pages}", f"allock {pages}", f"punch {pages}", f"punch {file} {first} 3", f"trunc {file} {dice.randint(0, 2)}",
+        f"unmap {dice.randint(0, 1)}", "exit", f"map {dice.choice((file, 7))} 4095 {length}",
+    ))
+
+
+def random_script(dice):
+    tasks, files, waits = dice.choice((2, 2, 2, 3, 3, 4)), dice.choice((1, 1, 2)), dice.random() < 0.3
+    quota = f" {dice.randint(1, 4)}" if dice.random() < 0.3 else ""
+    lines = [f"{'script' if waits else 'pool'} {dice.randint(1, 4)} {files} {dice.choice((1, 2, 4))} {tasks}{quota}"]
+    mapped = set()
+    for _ in range(dice.randint(2, {2: 8, 3: 6, 4: 4}[tasks])):
+        task = dice.randint(1, tasks)
+        if waits and dice.random() < 0.4:
+            lines.append(f"after {dice.choice([it for it in range(1, tasks + 1) if it != task])}")
+        maps = task not in mapped and dice.random() < 0.6
+        mapped.add(task)
+        call = f"map {dice.randrange(files)} 0 {dice.randint(2, 3)}" if maps else random_call(dice, files)
+        lines.append(f"begin {task} {call}")
+    return "\n".join(lines) + "\n"
+
+
+def option(fact):
+    match fact:
+        case "answer", task, call, word:
+            return ["--answer", f"{task}:{call}={word}"]
+        case "final", name, count:
+            return ["--final", f"{name}={count}"]
+        case "blocked", task:
+            return ["--blocked", str(task)]
+        case "meet", (task, phase), (other, second):
+            return ["--meet", f"{task}:{phase},{other}:{second}"]
+
+
+def find(program, text, words):
+    """The events of the trace that is written, or None."""
+    done = subprocess.run([program, "find", *words], input=text, capture_output=True, text=True)
+    if done.returncode not in (0, 1) or (done.returncode == 1) != (done.stdout == ""):
+        sys.exit(f"{' '.join(words)}: status {done.returncode}\n{done.stderr}{text}")
+    return done.stdout.splitlines()[1:] if done.returncode == 0 else None
+
+
+def meets(script, budget, events, wanted):
+    """The events are turns of one schedule, which meets all of these."""
+    place, met = opening(script, *budget), set()
+    for event in events:
+        there = [(following, answer) for line, following, answer in turns(script, place) if line == event]
+        if len(there) != 1:
+            return False
+        ((place, answer),) = there
+        met |= facts_of(script, place, answer)
+    return wanted <= met | facts_of(script, place, ends=not list(turns(script, place)))
+
+
+def options(names, budget, value=None):
+    """An option for each of these that isn't 0."""
+    return [word for name, n in zip(names, budget) if n for word in (name, str(value or n))]
+
+
+def difference(program, text, budget, wanted, least):
+    """What differs, or None."""
+    script = read_script(text)
+    words = [word for fact in wanted for word in option(fact)]
+    events = find(program, text, ["--every", *options(("--denials", "--kills"), budget), *words])
+    if (None if events is None else len(events)) != least:
+        return f"the search has {least} events, the program {events and len(events)}"
+    if events is not None and not meets(script, budget, events, wanted):
+        return "the trace is no schedule that meets them: " + "; ".join(events)
+    run = find(program, text, ["--limit", "100", *options(("--deny", "--kill"), budget, 60), *words])
+    spent = Counter(line.split()[0] for line in run or ())
+    if run is not None and spent["deny"] <= budget[0] and spent["kill"] <= budget[1] and (least is None or len(run) < least):
+        return f"a random run has {len(run)} events, the shortest schedule {least}"
+    return None
+
+
+def questions(dice, script, least):
+    """Conditions, one by one and in pairs: of those that are met and of those that aren't."""
+    calls = [(task + 1, call + 1) for task, queue in enumerate(script.queues) for call in range(len(queue) + 1)]
+    answers = [("answer", *call, word) for call, word in product(calls, WORDS)]
+    never = [it for it in answers if it not in least]
+    names = ("resv", "free") if script.quota is None else ("resv", "free", "used")
+    counts = [("final", name, n) for name in names for n in range(script.frames + 2)]
+    meeting = sorted(it for it in least if it[0] == "meet")
+    few = dice.sample(meeting, k=min(3, len(meeting)))
+    blocked = [("blocked", task + 1) for task in range(script.tasks)]
+    yield from ([it] for it in (*(it for it in answers if it in least), *dice.sample(never, k=6), *counts, *blocked, *few))
+    yield from (dice.sample([it for it in (*answers, *counts, *blocked, *few) if it in least], k=2) for _ in range(5))
+    # (a denied delete: the store succeeded, and its index stays reserved)
+    yield [("answer", 1, 2, "done"), ("final", "resv", script.frames - 1)]
+
+
+def compare(program, text, dice, most, asked):
+    """The differences on one script. Counts what was asked."""
+    script = read_script(text)
+    for budget in BUDGETS:
+        least, states = search(script, budget, most)
+        if least is None:
+            asked["searches left out, too large"] += 1
+            continue
+        asked["states"] += states
+        for question in questions(dice, script, least):
+            wanted = frozenset(question)
+            found, _ = (least, 0) if len(wanted) == 1 else search(script, budget, 100 * most, wanted)
+            events = found.get(*wanted) if len(wanted) == 1 else found.get(wanted)
+            asked[f"{'two' if len(wanted) > 1 else question[0][0]}, {'never' if events is None else 'met'}"] += 1
+            if what := difference(program, text, budget, wanted, events):
+                yield f"denials and kills {budget}, {' '.join(word for it in wanted for word in option(it))}: {what}"
+
+
+def main():
+    parser = argparse.ArgumentParser(description=__doc__.splitlines()[0])
+    parser.add_argument("--scripts", type=int, default=75)
+    parser.add_argument("--seed", type=int, default=1)
+    parser.add_argument("--states", type=int, default=20_000, help="searches of more are left out")
+    parser.add_argument("--program", help="by default that of this repository")
+    given = parser.parse_args()
+    program, asked, differences = given.program or tested(), Counter(), 0
+    for seed in range(given.seed - len(FIXED), given.seed + given.scripts):
+        dice = random.Random(seed)
+        text = random_script(dice) if seed >= given.seed else FIXED[seed - given.seed]
+        for what in compare(program, text, dice, given.states, asked):
+            differences += 1
+            print(f"seed {seed}: {what}\n{text}", flush=True)
+    counts = [f"{name}: {n}" for name, n in sorted(asked.items())]
+    print(f"scripts {len(FIXED) + given.scripts}", *counts, f"differences {differences}", sep="\n")
+    return differences > 0
+
+
+if __name__ == "__main__":
+    sys.exit(main())
