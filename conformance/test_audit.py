@@ -11,15 +11,15 @@ import json
 import struct
 import sys
 import tempfile
-from dataclasses import asdict, replace
+from dataclasses import replace
 from pathlib import Path
 from typing import Callable, Iterator
 from unittest.mock import ANY, patch
 
 import packages
 from audit import pictures
-from compare import Script
-from kernel.audit import elf, opened, picture, report, who
+from compare import Script, tested
+from kernel.audit import checks, elf, opened, picture, proved, report, who
 from kernel.audit.behind import Audited, read
 from kernel.audit.checks import CLAUSES, check, wrong
 from kernel.audit.owed import FUNCTIONS, KINDS, ORDER, kind_of
@@ -83,11 +83,13 @@ ERRORS: list[tuple[str, Callable[[State], object]]] = [
     ("place", lambda s: private_of(s).translations.append((0, 10 << 9))),
     ("place", lambda s: private_of(s).translations.append((0, 12 << 9))),
     ("size", lambda s: setattr(file_of(s), "size", 1)),
+    ("place", lambda s: s.mounts[1].files.append(replace(s.mounts[1].files[0], address=3, mappings=[replace(private_of(s), owner=False)]))),
+    ("place", lambda s: s.pools[0].free.append((0, 13 << 9))),
 ]
 
-# the clauses that a text has; errors of private memory, of minimum sizes and beside the lists aren't in it
+# the clauses that a text has; errors of minimum sizes and beside the lists aren't in it
 SEEN_IN_TEXT = {"reserve", "enough", "used", "agree", "place", "size"}
-UNSEEN_IN_TEXT = {10, 20, 21, 22}
+UNSEEN_IN_TEXT = {10, 20}
 
 # a call in flight, a difference of a count that it may owe, and one that it may not
 OWED = [
@@ -159,8 +161,12 @@ def cases_of_report() -> Iterator[tuple[str, bool]]:
     yield "the remedy is named", "after rm or truncate -s 0 of /m/file" in report.text(state, check(state))
 
 
+def texts_of(state: State) -> dict[str, str]:
+    return {it.name: it.text() for it in picture.pictures(state)}
+
+
 def cases_of_pictures() -> Iterator[tuple[str, bool]]:
-    texts = dict(picture.pictures(healthy()))
+    texts = texts_of(healthy())
     yield "a picture of the pool and of the limited mount", set(texts) == {"2048kB", "2048kB.mount0"}
     lines = texts["2048kB"].splitlines()
     yield "its head has the counts and what is owed", lines[0] == "picture 5 3 4 0"
@@ -170,13 +176,88 @@ def cases_of_pictures() -> Iterator[tuple[str, bool]]:
     yield "the auditor of texts finds them right", {pictures.verdict(text.encode()) for text in texts.values()} == {"findings 0"}
     for number, (clause, plant) in enumerate(ERRORS):
         if clause in SEEN_IN_TEXT and number not in UNSEEN_IN_TEXT:
-            found = {pictures.verdict(text.encode()) for text in dict(picture.pictures(with_error(plant))).values()}
+            found = {pictures.verdict(text.encode()) for text in texts_of(with_error(plant)).values()}
             yield f"error {number}, {clause}, shows in a text: {found}", found != {"findings 0"}
     locked = healthy()
     file_of(locked).locked = True
-    yield "a locked file", "file 4 locked" in dict(picture.pictures(locked))["2048kB"].splitlines()
-    yield "a count below zero is written", dict(picture.pictures(with_error(count(resv=-3))))["2048kB"].startswith("picture -3 3 ")
-    yield "what a fault may owe is owed", dict(picture.pictures(with_error(count(resv=4), "fault")))["2048kB"].startswith("picture 4 2 ")
+    yield "a locked file", "file 4 locked" in texts_of(locked)["2048kB"].splitlines()
+    yield "a count below zero is written", texts_of(with_error(count(resv=-3)))["2048kB"].startswith("picture -3 3 ")
+    yield "what a fault may owe is owed", texts_of(with_error(count(resv=4), "fault"))["2048kB"].startswith("picture 4 2 ")
+    apart, far, long = healthy(), healthy(), healthy()
+    file_of(apart).map.regions[:] = [(0, 2), (2, 4)]
+    yield "regions that touch are one", texts_of(apart) == texts
+    file_of(far).map.regions.append((2**31, 2**31 + 1))
+    yield "an index that no picture has", [it.fits() for it in picture.pictures(far)] == [False, False]
+    file_of(long).size = 2**42
+    yield "a size that no number has", f"file {2**32 - 1}" in texts_of(long)["2048kB"].splitlines()
+
+
+def asked(text: str) -> proved.Answer:
+    """What the auditor of texts answers, as hugepool audit would."""
+    told = pictures.verdict(text.encode())
+    return (0 if told == "findings 0" else 1), told + "\n", ""
+
+
+def with_mount() -> State:
+    """The right state with a mount more, whose file awaits a page and has one."""
+    state = healthy()
+    state.mounts.append(Mount(["/n"], 0, None, [File(4, 4, "more", 2, False, ReserveMap([(0, 2)], 0, 0, 0, False), {0: 14 << 9}, [])]))
+    state.pools[0].active[14 << 9] = Frame(14 << 9, 2, 0, 0, False)
+    state.pools[0].counts.update(nr=13, resv=6)
+    state.pools[0].nodes[0].update(nr=13)
+    return state
+
+
+def differences(state: State, ask: Callable[[str], proved.Answer] = asked) -> list[str]:
+    return proved.compared(state, "program", ask).differences
+
+
+# of a check that finds nothing the name, and an error that it misses
+MISSED = {"check_translations": 16, "check_places": 18, "check_reserve": 0, "check_enough": 2, "check_used": 8, "check_limits": 9, "check_file": 11}
+# programs that are wrong, and what they answer to each picture
+WRONG_PROGRAMS: dict[str, Callable[[str], proved.Answer]] = {
+    "finds nothing": lambda _: (0, "findings 0\n", ""),
+    "finds a frame too much": lambda _: (1, "frame 99: at two places\nresv: should be 5\nfindings 2\n", ""),
+    "fails": lambda _: (2, "", "hugepool: out of memory\n"),
+    "refuses a line": lambda _: (2, "", "hugepool: line 3 is not one of a picture\n"),
+    "prints something else": lambda _: (1, "page 0: of no file, or not behind the page before it\nfindings 1\n", ""),
+    "names a translation that isn't there": lambda _: (1, "translation 9: at or above the size of an unlocked file\nfindings 1\n", ""),
+    "ends with the status of a right picture": lambda text: (0, asked(text)[1], ""),
+}
+
+
+def cases_of_compared() -> Iterator[tuple[str, bool]]:
+    """What is found here and by hugepool audit is compared, and a difference is told."""
+    ask = proved.asking(str(tested()))
+    found = proved.compared(healthy(), "program", ask)
+    yield "a right state is right to both", (found.pictures, found.findings, found.differences) == (2, 0, [])
+    for number, (_, plant) in enumerate(ERRORS):
+        yield f"error {number} is found by both", differences(with_error(plant), ask) == differences(with_error(plant)) == []
+    for number, (kind, within, beyond) in enumerate(OWED):
+        yield f"{number}: what a {kind} may owe, and what not", not differences(with_error(within, kind)) + differences(with_error(beyond, kind))
+    yield "so is what another mount has", differences(with_mount()) == [] and check(with_mount()) == []
+    free = with_mount()
+    free.pools[0].free.append((0, 14 << 9))
+    yield "and what is wrong with it", differences(free) == [] and wrong(check(free)) != []
+    for name, number in MISSED.items():
+        with patch.object(checks, name, lambda *_: iter(())):
+            yield f"{name} misses an error", any("hugepool audit alone finds: " in it for it in differences(with_error(ERRORS[number][1])))
+    for what, wrong_one in ("vacant", 3), ("reserved", 3):
+        with patch.object(File, what, wrong_one):
+            yield f"{what} is wrong here", differences(healthy()) != []
+    for name, program in WRONG_PROGRAMS.items():
+        yield f"a program that {name}", differences(with_error(ERRORS[0][1]), program) != []
+    with patch.object(proved, "LAUNCHER", Path("/none")):
+        yield "where there is no ./hugepool, no program is there", proved.program() == ""
+    yield "a program that can't be started", differences(healthy(), proved.asking("/none")) != []
+    far = healthy()
+    file_of(far).map.regions.append((2**31, 2**31 + 1))
+    yield "a picture that doesn't fit isn't judged", "didn't judge 2048kB: a file" in "\n".join(proved.compared(far, "program", asked).lines())
+    lines = [it.lines()[0] for it in (found, proved.Compared("out/unproved", 1), proved.Compared(), proved.Compared("p", 1, 0, [], ["2048kB: .."]))]
+    yield "what is said", [" ".join(it.split()[:5]) for it in lines] == [
+        "hugepool audit finds the same:", "hugepool audit, compiled without proof,", "hugepool audit didn't judge this:", "DIFFERS 2048kB: .."]
+    at_once = read_of(with_error(count(resv=4)), compared={"differences": ["2048kB: .."]})
+    yield "behind a race a difference is a problem", raises(lambda: read(at_once), Problem)
 
 
 def note(name: bytes, kind: int, data: bytes) -> bytes:
@@ -304,11 +385,13 @@ def cases_of_races() -> Iterator[tuple[str, bool]]:
     leaked = [replace(AUDIT, has=1), replace(AUDIT, findings=[], has=0)]
     yield "race: a leak that is gone behind the next race", [it.known for it in wrong_audits([twice], known, leaked)] == [None]
     yield "race: an audit is missing", raises(lambda: wrong_audits([fine], known, []), Problem)
-    state = healthy()
-    pools = {"state": asdict(state), "recomputed": {"2048kB": {"all": 5}}, "findings": [asdict(it) for it in check(with_error(count(resv=4)))]}
-    owed = {**pools, "findings": [asdict(it) for it in check(with_error(count(resv=4), "fault"))]}
-    yield "what is owed is no finding", read(json.loads(json.dumps(owed))).findings == []
-    yield "an audit is read", read(json.loads(json.dumps(pools))) == Audited([("reserve", ANY)], 5, 5, 0, [])
+    yield "what is owed is no finding", read(read_of(with_error(count(resv=4), "fault"))).findings == []
+    yield "an audit is read", read(read_of(with_error(count(resv=4)))) == Audited([("reserve", ANY)], 4, 5, 0, [])
+
+
+def read_of(state: State, **more: object) -> dict:
+    """A state's JSON."""
+    return {**json.loads(report.json_text(state, check(state), 0, proved.Compared())), **more}
 
 
 def raises(act: Callable[[], object], kind: type[BaseException]) -> bool:
@@ -330,6 +413,7 @@ def all_cases(room: Path) -> Iterator[tuple[str, bool]]:
     yield from cases_of_owed()
     yield from cases_of_report()
     yield from cases_of_pictures()
+    yield from cases_of_compared()
     yield from cases_of_dumps(room)
     yield from cases_of_symbols(room)
     yield from cases_of_packages()

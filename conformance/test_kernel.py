@@ -26,7 +26,7 @@ import races
 from compare import Script
 from kernel import kernels, machine, minimize, report, reproduce, suites, testing
 from kernel.differences import Comparison, Result
-from kernel.known import explains, faults, known_issues, release, translated
+from kernel.known import Known, explains, faults, known_issues, release, translated
 from kernel.minimize import Minimizer, minimized
 from kernel.reproduce import Shown
 from kernel.testing import Tested, parsed, version_of, wrong_counts
@@ -262,6 +262,9 @@ def faults_of_reading() -> Iterator[tuple[str, object]]:
     for line, version in VERSIONS.items():
         yield line, version_of(line) == version or version_of(line)
     yield "versions have an order", release("6.1.192") < release("6.16") < release("6.16.12") < release("7") < release("7.3~rc7") < release("7.3.4")
+    own = Known("own", "title", ["6.1.192", "7.3~rc7"], "", "", "")
+    for version, is_listed in {"6.1.192-own": True, "7.3-rc7+": True, "6.1.19": False, "6.1.1920": False, "unknown": False}.items():
+        yield f"{version} is told by its numbers", ("not yet" not in report.known_text(own, 1, version)) == is_listed
     for name, kernel in MEMBERS.items():
         yield name, packages.kernel_member(name) == kernel
     for word, name in NAMES.items():
@@ -384,6 +387,28 @@ def faults_of_races() -> Iterator[tuple[str, object]]:
     yield "JSON of races", '"race_calls": 70' in report.json_text([found], "x")
 
 
+def faults_of_covering() -> Iterator[tuple[str, object]]:
+    """What runs by default, and that the last table says of each suite what it found, and nothing that its scripts have as not covered."""
+    yield "the races run by default", suites.default(False) == ("fixed", "random", "quota", "resize", "peers", "races") or suites.default(False)
+    yield "but not on a machine's own kernel", suites.default(True) == ("fixed", "random", "quota", "resize", "peers") or suites.default(True)
+    signs = {"quotas": r"(?m)^pool( \d+){5}$", "resizes": r"(?m)^resize ", "calls at once": r"(?m)^(start|race) "}
+    for it in suites.SUITES.values():
+        text = suites.text_of(suites.scripts_of(it))
+        for what, sign in signs.items():
+            yield f"{it.name}: {what}", (what in it.lacks) == (re.search(sign, text) is None)
+    calls = Tested("quota", "7", [Result("a", 3, 3), Result("b", 2, 2)], left=4)
+    raced = Tested("mine", "7", [Result("r", 2, 2)], [testing.WrongCount("r", "x", None)], rounds=testing.Rounds(1, 70, 900, 141))
+    found = report.covered([calls, raced])
+    yield "a suite that was ended", re.fullmatch(r"quota +5 +0 +0  calls at once, .*; the last 4 scripts, which were not made", found[1]) is not None or found
+    yield "races of one's own", re.fullmatch(r"mine +141 +1 +0  answers, .*\(only counts at rest are compared\); .*", found[2]) is not None or found
+    lacking = ("private", "fork", "mremap", "userfaultfd", "minimum sizes", "surplus", "control groups", "NUMA", "migration", "poison")
+    yield "what no suite covers", all(it in " ".join(found[3:]) for it in lacking) or found
+    both = report.text([calls, raced], "x").splitlines()
+    yield "the table is the last one", both[1 - len(found) :] == found[:-1] or both
+    script = Script("r", "pool 4 1 4 3", ["begin 1 map 0 0 1", "race 1 900 4 mst", "race 2 100 4 mst", "begin 1 trunc 0 0"])
+    yield "calls of all tasks", testing.calls_of_all(script) == 2 + 3 * 1000 or testing.calls_of_all(script)
+
+
 def faults_of_saying() -> Iterator[tuple[str, object]]:
     """That a boot that was tried again is passed on."""
     said: list[str] = []
@@ -457,7 +482,7 @@ def faults_of_lacks() -> Iterator[tuple[str, object]]:
         room, image = Path(name), Path(name) / "vmlinuz-1"
         image.touch()
         with patch.object(kernels.shutil, "which", lambda command: None if command.startswith("qemu") else f"/bin/{command}"):
-            said = problem_of(lambda: kernels.emulated(image, "x", 1, 1))
+            said = problem_of(lambda: kernels.emulated(image, "x", kernels.Emulation(1, 1)))
         yield "no QEMU", said.startswith("not on the PATH: 'qemu-system-x86_64' (package: qemu-system-x86);") or said
         with patch.object(kernels.os, "geteuid", lambda: 1000):
             said = problem_of(kernels.here)
@@ -571,7 +596,7 @@ def decided() -> list[str]:
 def main() -> int:
     parts = (faults_of_known, faults_of_files, faults_of_reading, faults_of_report, faults_of_commands, faults_of_recorded, faults_of_document)
     parts += (faults_of_lacks, faults_of_reproducing)
-    parts += (faults_of_saying, faults_of_interrupts, faults_of_races, faults_of_whole, faults_of_basis, faults_of_again, faults_of_boots, faults_of_minimizing)
+    parts += (faults_of_saying, faults_of_interrupts, faults_of_races, faults_of_covering, faults_of_whole, faults_of_basis, faults_of_again, faults_of_boots, faults_of_minimizing)
     tried = [it for part in parts for it in part()]
     wrong = [(what, found) for what, found in tried if found is not True]
     print("".join(f"  {what}: {found}\n" for what, found in wrong), end="")

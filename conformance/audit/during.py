@@ -9,22 +9,21 @@ The last line is 'N passed, M failed'. Status: 0 none is wrongly accused; 1 one 
 from __future__ import annotations
 
 import argparse
+import random
 import shutil
 import subprocess
 import sys
 import tempfile
+import time
 from collections import Counter
 from pathlib import Path
 
-from scenes import HERE, BOOT, compiled, parser as scene_parser, packed, command, wait_for
+from scenes import HERE, parser as scene_parser, running
 from table import Row, Scene, audited
 from kernel import kernels
 from kernel.audit.command import symbols_of
 from kernel.audit.emulated import Monitor
 from kernel.problem import Problem
-
-import random
-import time
 
 JOB = "while true; do record --race /scripts > /dev/null 2> /said || cat /said; done & echo 'scene: ready'; wait"
 
@@ -38,30 +37,11 @@ def room_of(room: Path, scripts: Path) -> Path:
     return room / "tree"
 
 
-def boot(options: argparse.Namespace, image: Path, room: Path) -> subprocess.Popen[bytes]:
-    words = scene_parser().parse_args(["--kernel", str(image), "--job", JOB, "--tree", str(room_of(room, options.scripts))])
-    console = room / "console"
-    initramfs = packed(words, room)
-    for attempt in range(3):
-        console.write_bytes(b"")
-        machine = subprocess.Popen(command(words, initramfs, console, room / "monitor"), stdin=subprocess.DEVNULL)
-        try:
-            wait_for("scene: begun", console, machine, BOOT)
-            wait_for("scene: ready", console, machine, BOOT)
-            return machine
-        except Problem:
-            machine.kill()
-            machine.wait()
-            if attempt == 2:
-                raise
-    raise AssertionError
-
-
 def follow(options: argparse.Namespace, image: Path, symbols: Path, room: Path) -> Counter[str]:
     found: Counter[str] = Counter()
-    machine = boot(options, image, room)
     chance = random.Random(options.seed)
-    try:
+    words = scene_parser().parse_args(["--kernel", str(image), "--job", JOB, "--tree", str(room_of(room, options.scripts))])
+    with running(words, room):
         monitor = Monitor(room / "monitor")
         for number in range(options.dumps):
             time.sleep(chance.uniform(0.2, 1.5))
@@ -71,17 +51,14 @@ def follow(options: argparse.Namespace, image: Path, symbols: Path, room: Path) 
             found[verdict(row, set(options.allow))] += 1
             print(f"{number}: {verdict(row, set(options.allow))}: {row.resv}, {row.calls} calls in flight; "
                   + "; ".join(f"{it['clause']}{' (owed)' if it['owed'] else ''}: {it['text']}" for it in row.findings), flush=True)
-            if row.status == 2:
+            if row.status == 2 or row.differences:
                 print(row.text, flush=True)
-    finally:
-        machine.kill()
-        machine.wait()
     return found
 
 
 def verdict(row: Row, allow: set[str]) -> str:
-    if row.status == 2:
-        return "FAILED to be read"
+    if row.status == 2 or row.differences:
+        return "FAILED to be read" if row.status == 2 else "FAILED, hugepool audit differs"
     where = "in flight" if row.calls else "at rest"
     return f"{where}, {'right' if not row.wrong() else 'allowed' if row.wrong() <= allow else 'FAILED'}{', owed' if any(it['owed'] for it in row.findings) else ''}"
 

@@ -4,7 +4,8 @@
 usage: plants.py [--core DUMP] [--vmlinux FILE]     the machine is in the scene `scene pages 48 plain` (scene.c)
 
 Bytes are laid over what is read: the dump, or the kernel, stays as it is. It runs in Debian's own Python, which has drgn.
-Status: 0 each plant is found by its clause, and each sign of a call in flight is seen; 1 one isn't; 2 it could not be read.
+Status: 0 each plant is found by its clause, as by hugepool audit where that is built, and each sign of a call in flight is seen;
+1 one isn't; 2 it could not be read.
 """
 from __future__ import annotations
 
@@ -19,6 +20,7 @@ from drgn.helpers.linux.rbtree import rbtree_inorder_for_each_entry
 
 sys.path.insert(0, str(Path(__file__).resolve().parent.parent))
 
+from kernel.audit import proved  # noqa: E402
 from kernel.audit.checks import check, wrong  # noqa: E402
 from kernel.audit.opened import opened  # noqa: E402
 from kernel.audit.reader import VM_MAYSHARE, Reader, file_name  # noqa: E402
@@ -112,15 +114,19 @@ BUSY: list[tuple[str, Callable[[Scene], None]]] = [
 
 def planted(options: argparse.Namespace) -> int:
     """Tries each plant, and returns how many were missed."""
-    missed = 0
+    missed, program = 0, proved.program()
+    print(proved.Compared(program).lines()[0] if not program else f"compared with {program}")
     for clause, what, plant in PLANTS:
         scene = Scene(options.core, options.vmlinux)
         plant(scene)
-        found = wrong(check(scene.reader.state()))
+        state = scene.reader.state()
+        found = wrong(check(state))
         its = [it for it in found if it.clause == clause]
-        missed += not its
+        differences = proved.compared(state, program, proved.asking(program)).differences if program else []
+        missed += not its or bool(differences)
         others = sorted({it.clause for it in found} - {clause})
-        print(f"{clause:8} {what}: {its[0].text if its else 'MISSED'}{f' (also {chr(44).join(others)})' if others else ''}", flush=True)
+        also = f" (also {', '.join(others)})" if others else ""
+        print(f"{clause:8} {what}: {its[0].text if its else 'MISSED'}{also}", *differences, sep="\n  ", flush=True)
     for what, plant in BUSY:
         scene = Scene(options.core, options.vmlinux)
         plant(scene)

@@ -7,14 +7,18 @@
  *   busy        faults and truncations for good, so that a dump finds calls in flight
  *   outside     a page whose index isn't in the reserve map, by a race
  *   surplus     lends four pages above the pool's size, and reserves two of them
+ *   groups      two processes of different control groups reserve ranges of a file that touch
+ *   poison      pages of a file and of private memory that are bad, and one that is taken away, where the kernel knows of bad memory
+ *   split       a hole is unmapped in the middle of private memory
  *   giant       a file and private memory with pages of 1 GiB (hugepagesz=1G hugepages=2)
  *   pages N     that many pages in the pool
- *   many N      N files of 64 pages, all mapped by four processes
+ *   many N      N files of 64 pages, of which 60 are there, all mapped by four processes
  */
 #define _GNU_SOURCE
 #include <errno.h>
 #include <fcntl.h>
 #include <pthread.h>
+#include <signal.h>
 #include <stdio.h>
 #include <stdlib.h>
 #include <string.h>
@@ -25,6 +29,9 @@
 #include <sys/stat.h>
 #include <unistd.h>
 
+#ifndef MADV_SOFT_OFFLINE
+#define MADV_SOFT_OFFLINE 101 /* include/uapi/asm-generic/mman-common.h */
+#endif
 #define PAGE (2L << 20)
 #define POOL "/sys/kernel/mm/hugepages/hugepages-2048kB/"
 
@@ -226,6 +233,79 @@ static void surplus(void)
 	need(count("surplus_hugepages") == 4, "surplus pages");
 }
 
+static void tell(const char *path, const char *text)
+{
+	FILE *to = fopen(path, "w");
+
+	need(to && fputs(text, to) >= 0 && !fclose(to), path);
+}
+
+static void first_of_file(void)
+{
+	tell("/cgroup/one/cgroup.procs", "0");
+	map(file_of("/h/groups", 4), 0, 2, MAP_SHARED);
+}
+
+static void rest_of_file(void)
+{
+	tell("/cgroup/two/cgroup.procs", "0");
+	map(file_of("/h/groups", 4), 2, 2, MAP_SHARED);
+}
+
+static void groups(void)
+{
+	mkdir("/h", 0755), mkdir("/cgroup", 0755);
+	need(!mount("none", "/h", "hugetlbfs", 0, "pagesize=2M"), "/h");
+	need(!mount("none", "/cgroup", "cgroup2", 0, NULL), "/cgroup");
+	tell("/cgroup/cgroup.subtree_control", "+hugetlb");
+	need(!mkdir("/cgroup/one", 0755) && !mkdir("/cgroup/two", 0755), "control groups");
+	have("first", 1, first_of_file);
+	have("rest", 1, rest_of_file);
+}
+
+static void split_memory(void)
+{
+	char *at = map(-1, 0, 6, MAP_PRIVATE | MAP_ANONYMOUS | MAP_HUGETLB);
+
+	at[0] = at[2 * PAGE] = at[5 * PAGE] = 1;
+	need(!munmap(at + 2 * PAGE, 2 * PAGE), "munmap");
+}
+
+static void split(void)
+{
+	have("split", 1, split_memory);
+}
+
+static void is_told(int unused)
+{
+	(void)unused;
+}
+
+/* (a kernel without CONFIG_MEMORY_FAILURE knows no such advice) */
+static void advise(char *at, int advice)
+{
+	need(!madvise(at, 4096, advice) || errno == EINVAL, "madvise");
+}
+
+static void bad_pages(void)
+{
+	char *shared = map(file_of("/i/bad", 4), 0, 4, MAP_SHARED), *own = map(-1, 0, 3, MAP_PRIVATE | MAP_ANONYMOUS | MAP_HUGETLB);
+
+	signal(SIGBUS, is_told);
+	touch(shared, 3);
+	touch(own, 2);
+	advise(shared, MADV_HWPOISON);
+	advise(shared + PAGE, MADV_SOFT_OFFLINE);
+	advise(own, MADV_HWPOISON);
+}
+
+static void poison(void)
+{
+	mkdir("/i", 0755);
+	need(!mount("none", "/i", "hugetlbfs", 0, "pagesize=2M"), "/i");
+	have("bad", 1, bad_pages);
+}
+
 static void faults_for_good(void)
 {
 	char *at = map(file_of("/d/busy", 16), 0, 16, MAP_SHARED);
@@ -329,7 +409,9 @@ static void maps_all(void)
 
 	for (long k = 0; k < files; k++) {
 		snprintf(path, sizeof(path), "/m/%ld", k);
-		touch(map(file_of(path, 64), 0, 64, MAP_SHARED), 48);
+		int file = file_of(path, 64);
+		touch(map(file, 0, 64, MAP_SHARED), 60);
+		close(file);
 	}
 }
 
@@ -357,6 +439,12 @@ int main(int words, char **word)
 			outside();
 		else if (!strcmp(word[k], "surplus"))
 			surplus();
+		else if (!strcmp(word[k], "groups"))
+			groups();
+		else if (!strcmp(word[k], "split"))
+			split();
+		else if (!strcmp(word[k], "poison"))
+			poison();
 		else if (!strcmp(word[k], "giant"))
 			giant();
 		else if (!strcmp(word[k], "pages") && k + 1 < words)

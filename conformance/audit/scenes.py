@@ -10,12 +10,15 @@ from __future__ import annotations
 
 import argparse
 import os
+import re
 import shutil
 import subprocess
 import sys
 import tempfile
 import time
+from contextlib import contextmanager
 from pathlib import Path
+from typing import Iterator
 
 HERE = Path(__file__).resolve().parent
 sys.path.insert(0, str(HERE.parent))
@@ -56,10 +59,29 @@ def packed(options: argparse.Namespace, room: Path) -> Path:
     (root / "init").write_text(INIT, encoding="utf-8")
     (root / "init").chmod(0o755)
     (root / "job").write_text(options.job + "\n", encoding="utf-8")
+    return archived(root, room / "initramfs")
+
+
+def archived(root: Path, to: Path) -> Path:
     names = b"\n".join(os.fsencode(it.relative_to(root)) for it in sorted(root.rglob("*")))
-    with (room / "initramfs").open("wb") as to:
-        subprocess.run(["cpio", "-o", "-H", "newc", "--quiet"], cwd=root, input=names, stdout=to, check=True)
-    return room / "initramfs"
+    with to.open("wb") as out:
+        subprocess.run(["cpio", "-o", "-H", "newc", "--quiet"], cwd=root, input=names, stdout=out, check=True)
+    return to
+
+
+def add_program(root: Path, program: Path, source: Path = Path("/")) -> None:
+    """Puts a program of this machine, or of another one's files, into a guest's /bin, with the libraries that it is linked to."""
+    (root / "bin").mkdir(parents=True, exist_ok=True)
+    shutil.copy(source / program.relative_to("/"), root / "bin" / program.name)
+    add_libraries(root, program, source)
+
+
+def add_libraries(root: Path, of: Path, source: Path = Path("/")) -> None:
+    """Those that a program is linked to; ldd fails for one that is linked to none."""
+    words = ["ldd", of] if source == Path("/") else ["chroot", source, "ldd", of]
+    for path in re.findall(r"(/\S+) \(0x", subprocess.run(words, capture_output=True, text=True, check=False).stdout):
+        (root / path[1:]).parent.mkdir(parents=True, exist_ok=True)
+        shutil.copy(source / path[1:], root / path[1:])
 
 
 def wait_for(text: str, console: Path, machine: subprocess.Popen[bytes], seconds: float) -> None:
@@ -79,26 +101,42 @@ def command(options: argparse.Namespace, initramfs: Path, console: Path, monitor
             "-serial", f"file:{console}", "-qmp", f"unix:{monitor},server=on,wait=off", *options.qemu.split()]
 
 
-def dumped(options: argparse.Namespace, room: Path) -> None:
-    """Boots, up to three times if the kernel stops or hangs before the job, and dumps as often as is asked."""
-    initramfs, console, monitor = packed(options, room), room / "console", room / "monitor"
+def booted(options: argparse.Namespace, room: Path) -> subprocess.Popen[bytes]:
+    """A machine whose job has begun: booted up to three times if the kernel stops or hangs before that."""
+    initramfs, console = packed(options, room), room / "console"
     for attempt in range(3):
         console.write_bytes(b"")
-        machine = subprocess.Popen(command(options, initramfs, console, monitor), stdin=subprocess.DEVNULL)
+        machine = subprocess.Popen(command(options, initramfs, console, room / "monitor"), stdin=subprocess.DEVNULL)
         try:
             wait_for("scene: begun", console, machine, BOOT)
-            wait_for(options.until, console, machine, options.seconds)
-            dump_all(options, monitor)
-            return
+            return machine
         except Problem as why:
-            if attempt == 2 or "scene: begun" in console.read_text(errors="replace"):
-                raise
-            print(f"scenes: booting again: {str(why).splitlines()[0]}", flush=True)
-        finally:
             machine.kill()
             machine.wait()
-            if options.verbose:
-                print("\n".join(line for line in console.read_text(errors="replace").splitlines() if line.strip()))
+            if attempt == 2:
+                raise
+            print(f"scenes: booting again: {str(why).splitlines()[0]}", flush=True)
+    raise AssertionError
+
+
+@contextmanager
+def running(options: argparse.Namespace, room: Path) -> Iterator[subprocess.Popen[bytes]]:
+    """A machine that has done its job."""
+    machine = booted(options, room)
+    try:
+        wait_for(options.until, room / "console", machine, options.seconds)
+        yield machine
+    finally:
+        machine.kill()
+        machine.wait()
+        if options.verbose:
+            print("\n".join(line for line in (room / "console").read_text(errors="replace").splitlines() if line.strip()))
+
+
+def dumped(options: argparse.Namespace, room: Path) -> None:
+    """Boots, and dumps as often as is asked."""
+    with running(options, room):
+        dump_all(options, room / "monitor")
 
 
 def dump_all(options: argparse.Namespace, monitor: Path) -> None:

@@ -56,8 +56,11 @@ SCENES = (
     Scene("outside", "exec scene pages 48 plain outside", frozenset(OUTSIDE)),
     Scene("refused", "exec scene pages 48 plain refused", frozenset({"used"}), since=(6, 16), before=(7, 4)),
     Scene("surplus", "exec scene pages 48 plain surplus"),
+    Scene("parts", "exec scene pages 64 plain groups split"),
+    Scene("poison", "exec scene pages 64 plain poison"),
     Scene("nodes", "exec scene pages 48 plain", words=("--qemu=-object memory-backend-ram,id=a,size=384M -object memory-backend-ram,id=b,size=384M "
           "-numa node,nodeid=0,cpus=0,memdev=a -numa node,nodeid=1,cpus=1,memdev=b",)),
+    Scene("vmemmap", "exec scene pages 48 plain", words=("--append=hugetlb_free_vmemmap=on",)),
     Scene("giant", "exec scene giant", words=("--memory=6144", "--append=hugepagesz=1G hugepages=2")),
     Scene("busy", "exec scene pages 64 plain busy", goes_on=True, may_be=frozenset(LOST | OUTSIDE)),
 )
@@ -79,6 +82,8 @@ class Row:
     findings: list[dict[str, str]] = field(default_factory=list)
     calls: int = 0
     seconds: float = 0.0
+    # of hugepool audit, where it is there
+    differences: list[str] = field(default_factory=list)
 
     def wrong(self) -> set[str]:
         return {it["clause"] for it in self.findings if not it["owed"]}
@@ -88,7 +93,7 @@ class Row:
         return it.wrong if it.since <= release(self.kernel) < it.before else frozenset()
 
     def is_right(self) -> bool:
-        if self.status == 2:
+        if self.status == 2 or self.differences:
             return False
         return self.wrong() <= self.scene.may_be if self.scene.goes_on else self.wrong() == self.required() and not self.calls
 
@@ -97,6 +102,7 @@ class Row:
         said = f"wrong: {', '.join(sorted(self.wrong()))}" if self.wrong() else "ok"
         said += f"; owed: {', '.join(owed)}" if owed else ""
         said += f"; {self.calls} calls in flight" if self.calls else ""
+        said += "; hugepool audit differs" if self.differences else ""
         return f"{'passed' if self.is_right() else 'FAILED'}  {self.kernel:26} {self.scene.name:9} {self.resv:10} {said} ({self.seconds:.1f} s)"
 
 
@@ -110,7 +116,7 @@ def audited(row: Row, dump: Path, symbols: Path) -> None:
         told = json.loads(said.read_text(encoding="utf-8"))
         pools = [it for it in told["state"]["pools"] if it["counts"]["nr"] or it["counts"]["resv"]]
         row.resv = " ".join(f"{it['counts']['resv']}={told['recomputed'][it['name']]['all']}" for it in pools)
-        row.findings, row.calls = told["findings"], len(told["state"]["calls"])
+        row.findings, row.calls, row.differences = told["findings"], len(told["state"]["calls"]), told["compared"]["differences"]
 
 
 def shown(scene: Scene, image: Path, symbols: Path, room: Path, keep: Path | None) -> Row:

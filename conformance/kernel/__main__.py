@@ -4,17 +4,19 @@ from __future__ import annotations
 import kernel.quiet  # (first: it says what Ctrl-C does meanwhile)
 
 import argparse
+import os
 import signal
 import subprocess
 import sys
 import time
+from dataclasses import dataclass, field
 from pathlib import Path
 from typing import NoReturn
 
 import generate
 from kernel import kernels, report, reproduce, suites
 from kernel.audit import command as audit
-from kernel.kernels import Kernel, say
+from kernel.kernels import Emulation, Kernel, say
 from kernel.known import FOLDER, Known, known_issues
 from kernel.machine import machine
 from kernel.minimize import Minimizer, minimized
@@ -35,11 +37,13 @@ ABOUT = """Finds the calls in which a Linux kernel differs from the machine of t
   ./kernel audit --core vmcore                                 who has reserved what in a kernel or a dump, and whether its counts are right
   ./kernel known                                               the known issues
 """
-AFTER = """Status: 0 no new difference; 1 new differences; 2 could not run.
+AFTER = """Status: 0 no new difference; 1 new differences, even if a later suite could not run; 2 could not run (125 with --bisect).
 Fetched kernels are kept in KIRVESSA_CACHE (~/.cache/kirvessa). Without /dev/kvm the processor is emulated, and a suite takes
 about a minute. conformance/README.md describes the suites, the scripts and the known issues."""
 # so many calls a task makes in a race at most where the processor is emulated
 RACE_CALLS = 300
+# statuses: of a command that can't run; for git bisect run, of a kernel that can't be judged, and of words that are wrong
+CANNOT_RUN, CANNOT_JUDGE, BISECTION_ENDS = 2, 125, 128
 RAW = argparse.RawDescriptionHelpFormatter
 
 
@@ -72,9 +76,9 @@ def parser() -> argparse.ArgumentParser:
     top = argparse.ArgumentParser(prog="kernel", description=ABOUT, epilog=AFTER, formatter_class=RAW)
     commands = top.add_subparsers(dest="command", required=True, metavar="COMMAND")
     about = "Tests a kernel, and prints each new difference."
-    test = commands.add_parser("test", help="tests a kernel", description=about, epilog=AFTER, formatter_class=RAW)
+    test = commands.add_parser("test", help="tests a kernel", description=about, epilog=AFTER, formatter_class=RAW, allow_abbrev=False)
     add_kernel(test)
-    names = f"of {', '.join(suites.SUITES)} ({' '.join(suites.SEQUENTIAL)} unless named; the races take minutes)"
+    names = f"of {', '.join(suites.SUITES)} ({' '.join(suites.default(False))} unless named; without {suites.RACES} with --here)"
     test.add_argument("--suites", nargs="+", default=None, metavar="NAME", help=names)
     test.add_argument("--scripts", nargs="+", type=Path, default=[], metavar="FILE", help="files of scripts, as a suite each")
     few = f"calls of a task in a race, at most ({RACE_CALLS} where the processor is emulated, else as the scripts have it)"
@@ -82,6 +86,10 @@ def parser() -> argparse.ArgumentParser:
     about = "dumps the emulated machine behind each race, and audits it (python3-drgn; symbols of --package, or --vmlinux)"
     test.add_argument("--audit", action="store_true", help=about)
     test.add_argument("--vmlinux", type=Path, metavar="FILE", help="of --audit: the kernel with its symbols")
+    test.add_argument("--first", action="store_true", help="ends at the first new difference")
+    test.add_argument("--bisect", action="store_true", help="for 'git bisect run': as --first; status 125 where the kernel can't be judged")
+    test.add_argument("--panic-on-warn", action="store_true", help="has an emulated kernel panic at a warning, so that nothing runs behind it")
+    test.add_argument("--keep-console", type=Path, metavar="FILE", help="keeps what the emulated kernels write to their consoles")
     test.add_argument("--junit", metavar="FILE", help="writes the results as JUnit's XML, too")
     test.add_argument("--json", metavar="FILE", help="writes the results as JSON, too")
     about = "Makes a new difference smaller: leaves out calls and lowers numbers until nothing smaller differs in the same way."
@@ -108,15 +116,19 @@ def parser() -> argparse.ArgumentParser:
 def kernel_of(options: argparse.Namespace) -> Kernel:
     if options.here:
         return kernels.here()
+    consoles = getattr(options, "keep_console", None)
+    if consoles is not None:
+        consoles.write_text("", encoding="utf-8")
+    how = Emulation(options.cpus, options.seconds, getattr(options, "audit", False), getattr(options, "panic_on_warn", False), consoles)
     if options.package is not None:
-        return kernels.of_package(options.package, options.cpus, options.seconds, getattr(options, "audit", False))
-    return kernels.emulated(Path(options.kernel), options.kernel, options.cpus, options.seconds, getattr(options, "audit", False))
+        return kernels.of_package(options.package, how)
+    return kernels.emulated(Path(options.kernel), options.kernel, how)
 
 
 def run_test(options: argparse.Namespace) -> int:
     """Tests a kernel suite by suite; each is one boot, or more where races leave wrong counts."""
     issues = known_issues(options.known, tuple(options.without))
-    default = [] if options.scripts else list(suites.SEQUENTIAL)
+    default = [] if options.scripts else suites.default(options.here)
     chosen = [suites.suite_of(name) for name in (default if options.suites is None else options.suites)]
     files = [(path.name, suites.read_scripts(path)) for path in options.scripts]
     symbols = audit_symbols(options) if options.audit else None
@@ -124,14 +136,58 @@ def run_test(options: argparse.Namespace) -> int:
     most = options.race_calls or (RACE_CALLS if kernel.is_slow else None)
     work = [Work(it.name, suites.scripts_of(it), it.has_races, peer_scripts() if it.name == suites.PEERS else [], most, symbols) for it in chosen]
     work += [Work(name, some, suites.has_races(some), [], most, symbols) for name, some in files]
-    found: list[Tested] = []
+    run = Running(options, answering.basis, len(work))
     try:
         for number, it in enumerate(work, 1):
             say(f"{number} of {len(work)}")
-            found.append(tested(kernel, answering, issues, it))
+            run.found.append(tested(kernel, answering, issues, it, run.tell, run.is_first))
+            if run.is_first and run.found[-1].new:
+                break
+    except FAILURES as why:
+        if not run.new:
+            raise
+        say(words_of(why))
     finally:
-        new = reported(options, found, answering.basis) if found else 0
-    return 1 if new else 0
+        run.report()
+    return 1 if run.new else 0
+
+
+@dataclass
+class Running:
+    """A test that goes on: the suites that ran, and how many new differences were printed."""
+
+    options: argparse.Namespace
+    basis: str
+    suites: int
+    found: list[Tested] = field(default_factory=list)
+    new: int = 0
+
+    @property
+    def is_first(self) -> bool:
+        return self.options.first or self.options.bisect
+
+    def tell(self, one: Tested) -> None:
+        """Prints what is new as soon as it is seen, the first differences in full."""
+        self.new += one.new
+        if self.new <= report.MOST:
+            print("\n".join(report.news([one])), flush=True)
+
+    def report(self) -> None:
+        """Prints what the suites showed that ran, even if a later one couldn't."""
+        if self.found:
+            report.write(self.options.json, report.json_text(self.found, self.basis))
+            report.write(self.options.junit, report.junit_text(self.found))
+            print(report.text(self.found, self.basis, is_told=True))
+        if self.found or self.new:
+            print(f"kernel: {self.last()}", flush=True)
+
+    def last(self) -> str:
+        """The last line. Where not all suites ran, no line may pass for a verdict that the kernel is right."""
+        new = f"{self.new} new difference{'' if self.new == 1 else 's'}"
+        if len(self.found) == self.suites:
+            return f"{new}{', the first of which ended it' if self.new and self.is_first else ''}"
+        ran = f"{len(self.found)} of {self.suites} suites ran"
+        return f"{new}; {ran}" if self.new else f"not judged: {ran}, and nothing in them is new"
 
 
 def audit_symbols(options: argparse.Namespace) -> Path:
@@ -141,16 +197,6 @@ def audit_symbols(options: argparse.Namespace) -> Path:
     if options.package is None and options.vmlinux is None:
         raise Problem("--audit needs the kernel's symbols: --vmlinux FILE")
     return options.vmlinux or audit.symbols_of(options.package)
-
-
-def reported(options: argparse.Namespace, found: list[Tested], basis: str) -> int:
-    """Prints what the suites showed that ran, even if a later one couldn't, and returns how many differences are new."""
-    report.write(options.json, report.json_text(found, basis))
-    report.write(options.junit, report.junit_text(found))
-    new = sum(it.new for it in found)
-    print(report.text(found, basis))
-    print(f"kernel: {new} new difference{'' if new == 1 else 's'}", flush=True)
-    return new
 
 
 def run_minimize(options: argparse.Namespace) -> int:
@@ -201,21 +247,59 @@ def end_by_signal(number: int, _: object) -> NoReturn:
     sys.exit(128 + number)
 
 
+FAILURES = (Problem, subprocess.CalledProcessError, OSError)
+
+
+def words_of(why: Exception) -> str:
+    """Why a command can't run, in one line."""
+    if isinstance(why, subprocess.CalledProcessError):
+        return f"{why.cmd[0]} fails on a trace: {(why.stderr or b'').decode(errors='replace').strip()}"
+    if isinstance(why, OSError):
+        return f"{why.filename or 'the system'}: {why.strerror}"
+    return str(why)
+
+
+def read_words(words: list[str]) -> argparse.Namespace:
+    """The words of the command line. Where they are wrong, a bisection has to end, which takes 2 for a kernel that is bad."""
+    try:
+        return parser().parse_args(words)
+    except SystemExit as it:
+        sys.exit(BISECTION_ENDS if it.code == 2 and "--bisect" in words else it.code)
+
+
+def status_of(options: argparse.Namespace) -> int:
+    """Runs a command. A bisection is told apart what can't be judged, an error of this program too."""
+    cannot = CANNOT_JUDGE if getattr(options, "bisect", False) else CANNOT_RUN
+    try:
+        return COMMANDS[options.command](options)
+    except FAILURES as why:
+        say(words_of(why))
+    except Exception as why:
+        if cannot == CANNOT_RUN:
+            raise
+        say(f"{type(why).__name__}: {why}")
+    return cannot
+
+
+def flushed(status: int) -> int:
+    """The status once all is written: a reader that is gone, or a disk that is full, is said in one line."""
+    try:
+        sys.stdout.flush()
+    except OSError as why:
+        os.dup2(os.open(os.devnull, os.O_WRONLY), sys.stdout.fileno())
+        if status in (0, 1):
+            say(f"standard output: {why.strerror}")
+            return CANNOT_RUN
+    return status
+
+
 def main() -> int:
     for number in (signal.SIGTERM, signal.SIGHUP, signal.SIGINT):
         signal.signal(number, end_by_signal)
-    options = parser().parse_args()
+    options = read_words(sys.argv[1:])
     if options.command in ("scripts", "known"):
         signal.signal(signal.SIGPIPE, signal.SIG_DFL)
-    try:
-        return COMMANDS[options.command](options)
-    except Problem as why:
-        say(str(why))
-    except subprocess.CalledProcessError as why:
-        say(f"{why.cmd[0]} fails on a trace: {(why.stderr or b'').decode(errors='replace').strip()}")
-    except OSError as why:
-        say(f"{why.filename or 'the system'}: {why.strerror}")
-    return 2
+    return flushed(status_of(options))
 
 
 if __name__ == "__main__":

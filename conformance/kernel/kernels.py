@@ -1,7 +1,9 @@
 """Asks a kernel: one that is booted in an emulated machine, or the one of this machine."""
 from __future__ import annotations
 
+import errno
 import os
+import re
 import shutil
 import subprocess
 import sys
@@ -13,16 +15,38 @@ from pathlib import Path
 from typing import Callable
 
 import packages
+from kernel.console import Console, Ended, text_at
 from kernel.problem import Problem
 
 RECORD = Path(__file__).resolve().parent.parent / "record"
 # how often it is looked whether a recorder is done, and how often its progress is printed, in seconds
 LOOK, SAY = 0.2, 15.0
+# a run without an answer for so many seconds says so
+SILENT = 30.0
+# a disk with less than so many bytes left is full
+FULL = 65536
+# what a recorder says where a kernel did what no rule allows: each pattern, and its sentence
+ODD = (
+    (r"record: '(race .*)': task (\d+): its (\w+) was answered '(.*)'", "no rule allows the answer '{3}' to the {2} of task {1} in {0}"),
+    (r"record: task (\d+) died of signal ((?:4|5|7|8|11) \(.*\))", "a call of task {0} ended in signal {1}"),
+    (r"record: before script (\S+) the kernel keeps (\d+) huge pages that nobody should use", "{1} huge pages are still in use before script {0}, and nobody has them"),
+)
 COMMANDS = {"qemu-system-x86_64": "qemu-system-x86", "cpio": "cpio", "cc": "build-essential"}
 
 
 # what looks on while a recorder runs, given the folder in which its files are
 Watch = Callable[[Path], AbstractContextManager[None]]
+# what reads the answers that came so far, and says whether they are enough
+Look = Callable[[str], bool]
+
+
+@dataclass(frozen=True)
+class Recording:
+    """What a kernel answered, and why it isn't all of it, if it isn't."""
+
+    text: str
+    is_whole: bool = True
+    ended: Ended | None = None
 
 
 def say(words: str) -> None:
@@ -50,31 +74,69 @@ class Kernel:
     command: Callable[[Path, bool], list[str | Path]]
     # whether its processor is emulated, too, so that races take long
     is_slow: bool = False
+    # where the consoles of its machines are kept, if they are
+    consoles: Path | None = None
 
-    def record(self, text: str, lines: int, has_races: bool = False, watch: Watch = lambda _: nullcontext()) -> str:
-        """What the kernel answers to the scripts of a text, which has so many lines to be answered. It may be watched meanwhile."""
+    def record(self, text: str, lines: int, has_races: bool = False) -> str:
+        """What the kernel answers to the scripts of a text, which has so many lines to be answered."""
+        found = self.recording(text, lines, has_races)
+        if found.ended:
+            raise Problem(f"the kernel ended it: {found.ended.what}")
+        return found.text
+
+    def recording(
+        self, text: str, lines: int, has_races: bool = False, watch: Watch = lambda _: nullcontext(), look: Look = lambda _: False
+    ) -> Recording:
+        """The same, or what it answers until it ends the run by what it does, or until enough is seen. It may be watched meanwhile."""
         with tempfile.TemporaryDirectory(prefix="kernel-") as name:
             room = Path(name)
             (room / "scripts").write_text(text, encoding="utf-8")
-            with watch(room):
-                return self.run(room, lines, has_races)
+            console = Console(room)
+            try:
+                with watch(room):
+                    return self.run(room, has_races, Waiting(room, lines, console, look))
+            finally:
+                keep(console.text(), self.consoles)
 
-    def run(self, room: Path, lines: int, has_races: bool) -> str:
+    def run(self, room: Path, has_races: bool, waiting: Waiting) -> Recording:
         command = self.command(room / "scripts", has_races)
         environment = {**os.environ, "TMPDIR": str(room)}
         # (what is told is kept in memory: where the disk is full, that is just what has to be read)
         with (room / "recorded").open("wb") as out, open(os.memfd_create("said"), "w+b") as said:
             ran = subprocess.Popen(command, stdin=subprocess.DEVNULL, stdout=out, stderr=said, env=environment)
             try:
-                wait(ran, room, lines)
+                is_enough = waiting.wait(ran)
             finally:
                 stop(ran)
             said.seek(0)
             told = said.read().decode(errors="replace")
+        waiting.console.look()
+        if ended := waiting.console.found or odd(told):
+            return Recording(so_far(room), False, ended)
+        if is_enough:
+            return Recording(so_far(room), False)
         if ran.returncode:
-            raise Problem(reason(told, ran.returncode))
+            raise Problem(full(room) or reason(told, ran.returncode))
         say_boots(told)
-        return (room / "recorded").read_text(encoding="utf-8")
+        return Recording((room / "recorded").read_text(encoding="utf-8"))
+
+
+def keep(text: str, path: Path | None) -> None:
+    """Appends what the consoles of a run said to the file that keeps them."""
+    if path is not None and text:
+        with path.open("a", encoding="utf-8") as file:
+            file.write(text)
+
+
+def odd(told: str) -> Ended | None:
+    """What a kernel did that no rule allows, by the word of the recorder, which can't go on from there."""
+    found = ((re.search(rf"(?m)^{pattern}", told), sentence) for pattern, sentence in ODD)
+    return next((Ended("answer", sentence.format(*it.groups())) for it, sentence in found if it), None)
+
+
+def full(room: Path) -> str | None:
+    """That the disk of the recorder's files is full, if it is: what was written there may lack its end."""
+    return f"{room}: {os.strerror(errno.ENOSPC)}" if shutil.disk_usage(room).free < FULL else None
 
 
 def say_boots(told: str) -> None:
@@ -84,15 +146,43 @@ def say_boots(told: str) -> None:
             say(line)
 
 
-def wait(ran: subprocess.Popen[bytes], room: Path, lines: int) -> None:
-    """Waits until a recorder has ended, and says now and then how far it is."""
-    began = said = time.monotonic()
-    while ran.poll() is None:
-        time.sleep(LOOK)
-        now = time.monotonic()
-        if now - said >= SAY:
-            said = now
-            say(f"  {now - began:.0f} s: {answered(room)} of {lines} calls answered")
+@dataclass
+class Waiting:
+    """Waits for a recorder: says how far it is, and that it has been silent for long, and ends where the kernel does wrong or enough is seen."""
+
+    room: Path
+    lines: int
+    console: Console
+    look: Look
+
+    def wait(self, ran: subprocess.Popen[bytes]) -> bool:
+        """Waits until a recorder has ended, its kernel did wrong, or enough is seen; whether it is the last."""
+        began = said = heard = silent = time.monotonic()
+        number = 0
+        while ran.poll() is None:
+            time.sleep(LOOK)
+            self.console.look()
+            if self.console.is_done:
+                return False
+            text = so_far(self.room)
+            if self.look(text):
+                return True
+            now, before, number = time.monotonic(), number, text.count(" = ")
+            if number != before:
+                heard = silent = now
+            if now - silent >= SILENT:
+                silent = now
+                say(f"  no call was answered for {now - heard:.0f} s; {last_of(text)}")
+            if now - said >= SAY:
+                said = now
+                say(f"  {now - began:.0f} s: {number} of {self.lines} calls answered")
+        return False
+
+
+def last_of(text: str) -> str:
+    """The last answer of a recording that goes on."""
+    line = next((line for line in reversed(text.splitlines()) if " = " in line or line.startswith("script ")), None)
+    return f"the last line is '{line}'" if line else "the kernel is still booting, or hangs"
 
 
 def stop(ran: subprocess.Popen[bytes]) -> None:
@@ -102,10 +192,14 @@ def stop(ran: subprocess.Popen[bytes]) -> None:
         ran.wait()
 
 
-def answered(room: Path) -> int:
-    """How many calls the recorder has answered on all its machines."""
-    files = [room / "recorded", *room.glob("emulate-*/recorded"), *room.glob("emulate-*/all")]
-    return sum(file.read_bytes().count(b" = ") for file in files if file.is_file())
+def so_far(room: Path) -> str:
+    """What the recorder has written so far on all its machines; the last line may lack its end."""
+    for folder in room.glob("emulate-*"):
+        before, now = text_at(folder / "all"), text_at(folder / "recorded")
+        # (each machine says first which kernel it has; and what a machine wrote is copied before the next one is booted)
+        rest = now.partition("\n")[2] if before else now
+        return before if rest and before.endswith(rest) else before + rest
+    return text_at(room / "recorded")
 
 
 def reason(said: str, status: int) -> str:
@@ -123,13 +217,30 @@ def reason(said: str, status: int) -> str:
     return ": ".join([last, *(panics or behind or qemu)[-1:]])
 
 
-def emulated(kernel: Path, name: str, cpus: int, seconds: int, is_paused: bool = False) -> Kernel:
-    """A kernel in an emulated machine, which may be stopped behind each race."""
+@dataclass(frozen=True)
+class Emulation:
+    """How a kernel is emulated: its processors, the seconds that a machine may take, and what else."""
+
+    cpus: int
+    seconds: int
+    # stopped behind each race
+    is_paused: bool = False
+    # a warning stops the kernel
+    panics_on_warning: bool = False
+    consoles: Path | None = None
+
+    def words(self) -> list[str]:
+        words = ["--leave", "--cpus", str(self.cpus), "--seconds", str(self.seconds)]
+        return [*words, *(["--pause"] if self.is_paused else []), *(["--append", "panic_on_warn=1"] if self.panics_on_warning else [])]
+
+
+def emulated(kernel: Path, name: str, how: Emulation) -> Kernel:
+    """A kernel in an emulated machine."""
     readable(kernel)
     need("qemu-system-x86_64", "cpio", "cc")
     accel = accelerator()
-    options = ["--kernel", kernel, "--cpus", str(cpus), "--seconds", str(seconds), "--accel", accel, *(["--pause"] if is_paused else [])]
-    return Kernel(name, lambda scripts, _: [RECORD / "emulate.sh", *options, scripts], accel == "tcg")
+    options = ["--kernel", kernel, *how.words(), "--accel", accel]
+    return Kernel(name, lambda scripts, _: [RECORD / "emulate.sh", *options, scripts], accel == "tcg", how.consoles)
 
 
 def accelerator() -> str:
@@ -156,11 +267,11 @@ def image_of(package: str) -> Path:
         raise Problem(f"the kernel of {package} can't be fetched: {getattr(why, 'strerror', None) or why}") from why
 
 
-def of_package(package: str, cpus: int, seconds: int, is_paused: bool = False) -> Kernel:
+def of_package(package: str, how: Emulation) -> Kernel:
     """The kernel of a Debian package, in an emulated machine."""
     need("qemu-system-x86_64", "cpio", "cc")
     kernel = image_of(package)
-    return emulated(kernel, f"{package} ({kernel.name})", cpus, seconds, is_paused)
+    return emulated(kernel, f"{package} ({kernel.name})", how)
 
 
 def here() -> Kernel:

@@ -44,6 +44,10 @@ class Known:
     def __str__(self) -> str:
         return self.name
 
+    def was_seen_on(self, version: str) -> bool:
+        """Whether it was seen on a kernel of the same numbers: one that is built anew, as 6.18.44-own, is what it was built from."""
+        return release(version) in {release(it) for it in self.versions}
+
     @property
     def recordings(self) -> list[dict[str, Any]]:
         """The recordings of races that show it, each with the letters of the rules (live/check.py) that make it whole."""

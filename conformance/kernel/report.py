@@ -4,6 +4,7 @@ from __future__ import annotations
 import json
 from collections import Counter
 from pathlib import Path
+from textwrap import wrap
 from xml.etree import ElementTree
 
 from compare import Told
@@ -11,18 +12,21 @@ from kernel.differences import Difference
 from kernel.known import Known
 from kernel.peers import Broken
 from kernel.problem import Problem
-from kernel.testing import Tested, WrongCount
+from kernel.suites import NOWHERE, lacks
+from kernel.testing import Stopped, Tested, WrongCount
 
 HEADS = ("suite", "scripts", "calls", "agree", "not compared", "differ", "known rule", "new", "seconds")
 RACE_HEADS = ("races", "audited", "scripts", "right", "known rule", "new", "races of all", "calls of a task", "as written", "seconds")
+COVERED = ("suite", "calls", "new", "known")
 LEGEND = (
     "not compared: calls from the first difference, byte call or end of a known rule on; differ: scripts, each known or new;",
     "known rule: scripts that end at one, with a difference or without",
 )
 RACE_LEGEND = (
-    "right: scripts whose counts are right at rest, which is all that is compared; calls of a task: in each race, at most; as written:",
-    "in the scripts. How a race ends is by chance, and one with fewer calls shows less.",
+    "right: scripts whose counts are right at rest, and whose audits, if there are some, find nothing; no more is compared; calls of a",
+    "task: in each race, at most; as written: in the scripts. How a race ends is by chance, and one with fewer calls shows less.",
 )
+WIDTH = 120
 # so many new differences are printed in full, and so many spoiled calls of each
 MOST, SPOILED = 20, 5
 
@@ -35,7 +39,8 @@ def row(it: Tested) -> tuple[str, ...]:
 def total(all_of_them: list[Tested]) -> Tested:
     """All suites as one."""
     results, wrong = [it for one in all_of_them for it in one.results], [it for one in all_of_them for it in one.wrong]
-    return Tested("all", all_of_them[0].version, results, wrong, sum(it.seconds for it in all_of_them))
+    stopped, left = [it for one in all_of_them for it in one.stopped], sum(it.left for it in all_of_them)
+    return Tested("all", all_of_them[0].version, results, wrong, sum(it.seconds for it in all_of_them), stopped=stopped, left=left)
 
 
 def race_row(it: Tested) -> tuple[str, ...]:
@@ -93,6 +98,18 @@ def difference_text(it: Difference) -> list[str]:
     ]
 
 
+def stopped_text(suite: str, it: Stopped) -> list[str]:
+    """What ended a suite: what the kernel did, the call in flight, the lines that say it, and the script up to there."""
+    script = [f"script {it.script.name}", it.script.header, *it.script.lines, "end"] if it.script else []
+    name = f"{it.script.name}, call {len(it.script.lines)}: " if it.script else ""
+    return [
+        f"{it.ended.kind}: {it.ended.what}",
+        f"  in flight: suite {suite}, {name}{it.call}",
+        *(f"  | {line}" for line in it.ended.lines),
+        *(f"    {line}" for line in script),
+    ]
+
+
 def new_differences(all_of_them: list[Tested]) -> list[Difference]:
     """The new differences, those with the fewest calls first."""
     found = [it.difference for one in all_of_them for it in one.results if it.difference and it.difference.known is None]
@@ -118,23 +135,59 @@ def known_of(all_of_them: list[Tested]) -> list[tuple[Known, int]]:
 
 def known_text(known: Known, count: int, version: str) -> str:
     """A known issue that was seen, and whether it was seen on this version before."""
-    first = "" if version in known.versions or not version else f" (not yet listed for {version})"
+    first = "" if known.was_seen_on(version) or not version else f" (not yet listed for {version})"
     return f"  {known.name}: {count} script{'s' if count > 1 else ''}: {known.title}{first}"
 
 
-def text(all_of_them: list[Tested], basis: str) -> str:
-    """The whole report."""
-    version, new = all_of_them[0].version, new_differences(all_of_them)
+def text(all_of_them: list[Tested], basis: str, is_told: bool = False) -> str:
+    """The whole report; what is new stands in it in full unless it was printed before."""
+    version = all_of_them[0].version
     lines = [f"kernel {version}; the machine's answers: {basis}", "", *tables(all_of_them), ""]
     if known := known_of(all_of_them):
         lines += ["known:", *(known_text(it, count, version) for it, count in known), ""]
+    lines += brief_news(all_of_them) if is_told else news(all_of_them)
+    return "\n".join([*lines, *covered(all_of_them)])
+
+
+def covered(all_of_them: list[Tested]) -> list[str]:
+    """The last table: what each suite found, and what it doesn't cover; then what none of them does."""
+    rows = [(it.name, str(it.made), str(it.new), str(it.known), lacks(it.name, it.rounds is not None), it.left) for it in all_of_them]
+    numbers = aligned([COVERED, *(row[:4] for row in rows)])
+    texts = ["not covered", *(f"{text}; the last {left} scripts, which were not made" if left else text for *_, text, left in rows)]
+    return [*(f"{row}  {text}" for row, text in zip(numbers, texts)), *wrap(f"covered by no suite: {NOWHERE}", WIDTH), ""]
+
+
+def wrong_text(it: WrongCount) -> list[str]:
+    """A script of races that leaves a wrong count: what is right, what was found and behind which call, and the script."""
+    lines = [f"{it.name}: wrong counts that no known issue explains: {it.rests}"]
+    if it.first:
+        lines += [f"  expected: {it.first.expected}", f"  found:    {it.first.found.free} free, {it.first.found.resv} reserved"]
+        lines += [f"  behind:   call {it.first.number}: {it.first.call}"]
+    lines += [f"  {text}" for text in it.findings]
+    return [*lines, *(f"    {line}" for line in (f"script {it.name}", it.script.header, *it.script.lines, "end"))] if it.script else lines
+
+
+def news(all_of_them: list[Tested]) -> list[str]:
+    """All that no known issue explains, in full."""
+    lines, new = [], new_differences(all_of_them)
+    for suite, it in ((one.name, it) for one in all_of_them for it in one.stopped):
+        lines += ["new:", *stopped_text(suite, it), ""]
     for it in new_wrong_counts(all_of_them):
-        lines += [f"{it.name}: wrong counts that no known issue explains: {it.rests}", *(f"  {text}" for text in it.findings)]
+        lines += ["new:", *wrong_text(it), ""]
     lines += [f"new: {it}" for it in new_broken(all_of_them)]
     for it in new[:MOST]:
         lines += ["new:", *difference_text(it), ""]
-    lines += [f"{len(new) - MOST} more new differences: --json FILE has them all", ""] if len(new) > MOST else []
-    return "\n".join(lines)
+    return lines + ([f"{len(new) - MOST} more new differences: --json FILE has them all", ""] if len(new) > MOST else [])
+
+
+def brief_news(all_of_them: list[Tested]) -> list[str]:
+    """The same in a line each, where it was printed in full before."""
+    lines = [f"  suite {one.name}: {it.ended.kind}: {it.ended.what}" for one in all_of_them for it in one.stopped]
+    lines += [f"  {it.name}: wrong counts" for it in new_wrong_counts(all_of_them)]
+    lines += [f"  {it}" for it in new_broken(all_of_them)]
+    lines += [f"  {it.script.name}, call {it.number}: {it.seen.call}: {', '.join(it.seen.fields())}" for it in new_differences(all_of_them)]
+    more = [f"  {len(lines) - MOST} more: --json FILE has them all"] if len(lines) > MOST else []
+    return ["new, printed in full above:", *lines[:MOST], *more, ""] if lines else []
 
 
 def difference_data(it: Difference) -> dict[str, object]:
@@ -145,6 +198,11 @@ def difference_data(it: Difference) -> dict[str, object]:
     }  # fmt: skip
 
 
+def stopped_data(it: Stopped) -> dict[str, object]:
+    script = it.script and "\n".join([f"script {it.script.name}", it.script.header, *it.script.lines, "end"])
+    return {"kind": it.ended.kind, "what": it.ended.what, "call": it.call, "script": script, "console": list(it.ended.lines)}
+
+
 def suite_data(it: Tested) -> dict[str, object]:
     differences = [difference_data(one.difference) for one in it.results if one.difference]
     counts = [{"script": one.name, "rests": one.rests, "known": one.known and one.known.name, "findings": list(one.findings)} for one in it.wrong]
@@ -153,7 +211,7 @@ def suite_data(it: Tested) -> dict[str, object]:
     return raced | {
         "suite": it.name, "scripts": len(it.results), "calls": it.calls, "agree": it.agreed, "differ": it.differ, "known": it.known,
         "new": it.new, "seconds": round(it.seconds, 1), "differences": differences, "wrong_counts": counts,
-        "broken_assertions": broken,
+        "broken_assertions": broken, "stopped": [stopped_data(one) for one in it.stopped], "not_made": it.left,
     }  # fmt: skip
 
 
@@ -168,7 +226,7 @@ def junit_text(all_of_them: list[Tested]) -> str:
     for suite in all_of_them:
         counts = {it.name: it for it in suite.wrong if it.known is None}
         broken = {it.script: it for it in reversed(new_broken([suite]))}
-        numbers = {"tests": str(len(suite.results)), "failures": str(suite.new), "time": f"{suite.seconds:.1f}"}
+        numbers = {"tests": str(len(suite.results) + len(suite.stopped)), "failures": str(suite.new), "time": f"{suite.seconds:.1f}"}
         node = ElementTree.SubElement(top, "testsuite", {"name": suite.name, **numbers})
         for it in suite.results:
             case = ElementTree.SubElement(node, "testcase", classname=suite.name, name=it.name)
@@ -178,6 +236,9 @@ def junit_text(all_of_them: list[Tested]) -> str:
                 ElementTree.SubElement(case, "failure", message="wrong counts at rest").text = counts[it.name].rests
             elif it.name in broken:
                 ElementTree.SubElement(case, "failure", message="an assertion of a peer doesn't hold").text = str(broken[it.name])
+        for one in suite.stopped:
+            case = ElementTree.SubElement(node, "testcase", classname=suite.name, name=one.script.name if one.script else "the end")
+            ElementTree.SubElement(case, "failure", message=one.ended.what).text = "\n".join(stopped_text(suite.name, one))
     return ElementTree.tostring(top, encoding="unicode", xml_declaration=True) + "\n"
 
 

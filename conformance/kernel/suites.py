@@ -19,23 +19,43 @@ class Suite:
 
     name: str
     files: tuple[str, ...]
+    # what its scripts don't have, beside what no suite has
+    lacks: str
     has_races: bool = False
 
 
+AT_ONCE = "calls at once"
+BY_COUNTS = "quotas, resizes; answers, pages and words (only counts at rest are compared); schedules that chance misses"
+# what no suite has
+NOWHERE = "private mappings, fork of a task that maps, mremap, userfaultfd, minimum sizes (min_size=), surplus pages (overcommit), \
+control groups, NUMA, migration, memory failures (poison), failed allocations, pages of other sizes than 2 MiB"
 SUITES = {
     it.name: it
     for it in (
-        Suite("fixed", ("calls-fixed.txt",)),
-        Suite("random", ("calls-random.txt",)),
-        Suite("quota", ("calls-quota.txt",)),
-        Suite("resize", ("calls-resize.txt",)),
-        Suite(PEERS, tuple(f"{PEERS}/{path.name}" for path in sorted((FOLDER / PEERS).glob("*.txt")))),
-        Suite("races", ("races.txt", "races-by-kind.txt"), True),
-        Suite("races-by-chance", ("races-by-chance.txt",), True),
+        Suite("fixed", ("calls-fixed.txt",), f"{AT_ONCE}, quotas, resizes; lengths in bytes are made, and not compared"),
+        Suite("random", ("calls-random.txt",), f"{AT_ONCE}, quotas, resizes, lengths in bytes"),
+        Suite("quota", ("calls-quota.txt",), f"{AT_ONCE}, resizes, lengths in bytes"),
+        Suite("resize", ("calls-resize.txt",), f"{AT_ONCE}, quotas, lengths in bytes"),
+        Suite(PEERS, tuple(f"{PEERS}/{path.name}" for path in sorted((FOLDER / PEERS).glob("*.txt"))), "what its authors don't assert of calls that overlap"),
+        Suite("races", ("races.txt", "races-by-kind.txt"), BY_COUNTS, True),
+        Suite("races-by-chance", ("races-by-chance.txt",), BY_COUNTS, True),
     )
 }
-# what runs unless suites are named: one boot each
+# what runs unless suites are named: one boot each; and the races, which may leave a wrong count until the next boot
 SEQUENTIAL = ("fixed", "random", "quota", "resize", PEERS)
+RACES = "races"
+
+
+def default(is_here: bool) -> tuple[str, ...]:
+    """The suites that run unless some are named. A machine's own kernel is left with its counts: there races have to be named."""
+    return SEQUENTIAL if is_here else (*SEQUENTIAL, RACES)
+
+
+def lacks(name: str, has_races: bool) -> str:
+    """What a suite doesn't cover, by its name, or, of scripts of one's own, by what is compared of them."""
+    if name in SUITES:
+        return SUITES[name].lacks
+    return BY_COUNTS.partition("; ")[2] if has_races else "what its scripts don't have"
 
 
 def suite_of(name: str) -> Suite:

@@ -4,15 +4,17 @@ from __future__ import annotations
 import re
 import time
 from concurrent.futures import ThreadPoolExecutor
-from dataclasses import dataclass, field
+from dataclasses import dataclass, field, replace
 from pathlib import Path
 from tempfile import TemporaryDirectory
+from typing import Callable
 
 import races
 from compare import Script, scripts
 from kernel.audit.behind import Audited, Behind
+from kernel.console import Ended
 from kernel.differences import Comparison, Result
-from kernel.kernels import Kernel, say
+from kernel.kernels import Kernel, Look, Recording, say
 from kernel.known import Known, race_rule
 from kernel.machine import Machine
 from kernel.peers import broken_by
@@ -21,6 +23,8 @@ from kernel.suites import call_of, in_order, race_calls, shortened, text_of
 
 # so many scripts are compared at a time
 AT_A_TIME = 2
+# while a kernel answers, so long is compared before its console is looked at again, in seconds
+AT_ONCE = 0.5
 
 
 @dataclass(frozen=True)
@@ -32,6 +36,19 @@ class WrongCount:
     known: Known | None
     # what audits behind its races say against it
     findings: tuple[str, ...] = ()
+    # its calls, and the first count that is wrong
+    script: Script | None = None
+    first: WrongRest | None = None
+
+
+@dataclass(frozen=True)
+class WrongRest:
+    """A wrong count at rest: behind which call of its script, what is right there, and what was found."""
+
+    number: int
+    call: str
+    expected: str
+    found: races.Rest
 
 
 @dataclass(frozen=True)
@@ -41,6 +58,17 @@ class Rounds:
     races: int
     calls: int
     written: int
+    # all calls of all tasks, in races and beside them
+    made: int
+
+
+@dataclass(frozen=True)
+class Stopped:
+    """Why a suite ended before its last call, and the script that was at work, cut behind the call in flight."""
+
+    ended: Ended
+    script: Script | None
+    call: str
 
 
 @dataclass
@@ -55,10 +83,19 @@ class Tested:
     # of a suite of races, which is judged by its counts alone, or by audits, too
     rounds: Rounds | None = None
     audits: int | None = None
+    # where the kernel ended it, if it did: no script behind that was made
+    stopped: list[Stopped] = field(default_factory=list)
+    # how many scripts weren't made
+    left: int = 0
 
     @property
     def calls(self) -> int:
         return sum(it.calls for it in self.results)
+
+    @property
+    def made(self) -> int:
+        """How many calls were made, those of each task in a race, too."""
+        return self.rounds.made if self.rounds else self.calls
 
     @property
     def agreed(self) -> int:
@@ -72,12 +109,12 @@ class Tested:
 
     @property
     def new(self) -> int:
-        """How many scripts show something that no known issue explains."""
-        return sum(it.is_new for it in self.results) + sum(it.known is None for it in self.wrong)
+        """How many scripts show something that no known issue explains; the one that the kernel ended is another."""
+        return sum(it.is_new for it in self.results) + sum(it.known is None for it in self.wrong) + len(self.stopped)
 
     @property
     def differ(self) -> int:
-        return sum(it.differs for it in self.results) + len(self.wrong)
+        return sum(it.differs for it in self.results) + len(self.wrong) + len(self.stopped)
 
 
 def parsed(text: str) -> tuple[str, list[Script]]:
@@ -94,14 +131,37 @@ def version_of(first: str) -> str:
     return found[1] if found else ""
 
 
-def recorded(kernel: Kernel, name: str, some: list[Script], has_races: bool, behind: Behind | None = None) -> tuple[str, list[Script]]:
-    """The scripts with the kernel's answers, which have to be all of them."""
+def parted(text: str) -> tuple[str, str]:
+    """A recording that goes on: its whole scripts, and what follows them."""
+    lines = text.splitlines(keepends=True)
+    ends = [at for at, line in enumerate(lines) if line.startswith("end ") and line.endswith("\n")]
+    at = ends[-1] + 1 if ends else 0
+    return "".join(lines[:at]), "".join(lines[at:])
+
+
+def stopped(asked: list[Script], text: str, ended: Ended) -> Stopped:
+    """Where a recording was when the kernel ended it."""
+    whole, rest = parted(text)
+    number = len(re.findall(r"(?m)^script ", whole))
+    if number == len(asked):
+        return Stopped(ended, None, "all calls were answered")
+    script = asked[number]
+    if "\npool " not in rest:
+        return Stopped(ended, Script(script.name, script.header, []), "its pool is opened")
+    answered = sum(" = " in line for line in rest.splitlines(keepends=True) if line.endswith("\n") and not line.startswith("#"))
+    call = script.lines[answered] if answered < len(script.lines) else "its tasks end, and its files go"
+    return Stopped(ended, Script(script.name, script.header, script.lines[: answered + 1]), call)
+
+
+def recorded(kernel: Kernel, name: str, some: list[Script], has_races: bool, behind: Behind | None, look: Look) -> tuple[str, list[Script], Recording]:
+    """The scripts with the kernel's answers, which have to be all of them, unless the kernel ended it."""
     lines = sum(len(it.lines) for it in some)
     say(f"suite {name}: {len(some)} scripts, {lines} calls on {kernel.name}")
     watch = {"watch": behind.watching} if behind else {}
-    version, answered = parsed(kernel.record(text_of(some), lines, has_races, **watch))
-    check_whole(name, some, answered)
-    return version, answered
+    recording = kernel.recording(text_of(some), lines, has_races, look=look, **watch)
+    version, answered = parsed(recording.text if recording.is_whole else parted(recording.text)[0])
+    check_whole(name, some if recording.is_whole else some[: len(answered)], answered)
+    return version, answered, recording
 
 
 def check_whole(name: str, some: list[Script], answered: list[Script]) -> None:
@@ -133,26 +193,79 @@ class Work:
         return in_order(self.scripts if self.most_calls is None else shortened(self.scripts, self.most_calls))
 
 
-def tested(kernel: Kernel, machine: Machine, known: list[Known], work: Work) -> Tested:
-    """What one suite shows."""
+@dataclass
+class Following:
+    """Compares the scripts of a suite as they are answered, and passes on at once what is new: each time a suite of one script."""
+
+    comparison: Comparison
+    work: Work
+    news: Callable[[Tested], None]
+    # whether the first new difference is enough
+    is_first: bool = False
+    results: list[Result] = field(default_factory=list)
+    new: int = 0
+
+    @property
+    def is_enough(self) -> bool:
+        return self.is_first and self.new > 0
+
+    def look(self, text: str) -> bool:
+        """Looks at the answers so far, for a while; whether they are enough."""
+        whole, until = parted(text)[0], time.monotonic() + AT_ONCE
+        if len(re.findall(r"(?m)^end ", whole)) > len(self.results):
+            self.comparison.version, answered = parsed(whole)
+            self.follow(answered[len(self.results) :], until)
+        return self.is_enough
+
+    def follow(self, answered: list[Script], until: float) -> None:
+        asked = self.work.asked()
+        for script in answered:
+            if self.is_enough or time.monotonic() >= until or script.name != asked[len(self.results)].name:
+                return
+            self.add(script)
+
+    def add(self, script: Script) -> None:
+        one = judged(self.comparison, self.work, [script])
+        self.results += one.results
+        if one.new and self.work.symbols is None:
+            self.new += one.new
+            self.news(one)
+
+
+def tested(kernel: Kernel, machine: Machine, known: list[Known], work: Work, news: Callable[[Tested], None] = lambda _: None, is_first: bool = False) -> Tested:
+    """What one suite shows; what is new is passed on as soon as it is seen."""
     began = time.monotonic()
     behind = Behind(work.symbols) if work.symbols and work.has_races else None
-    version, answered = recorded(kernel, work.name, work.asked(), work.has_races, behind)
-    found = judged(Comparison(machine.program, version, known), work, answered, behind.audits if behind else None)
+    following = Following(Comparison(machine.program, "", known), work, news, is_first)
+    asked = work.asked()
+    version, answered, recording = recorded(kernel, work.name, asked, work.has_races, behind, following.look)
+    following.comparison.version = version
+    following.follow(answered[len(following.results) :], float("inf"))
+    if following.is_enough:
+        answered = answered[: len(following.results)]
+    found = judged(following.comparison, work, answered, behind.audits if behind and recording.is_whole else None, following.results)
+    found.left = len(asked) - len(answered)
+    if recording.ended and not following.is_enough:
+        found.stopped.append(stopped(asked, recording.text, recording.ended))
+    if behind or found.stopped:
+        news(replace(found, results=[], wrong=found.wrong if behind else []))
     found.seconds = time.monotonic() - began
     name = work.name
     say(f"suite {name}: {found.seconds:.0f} s, {found.known} known, {found.new} new")
     return found
 
 
-def judged(comparison: Comparison, work: Work, answered: list[Script], audits: list[Audited] | None = None) -> Tested:
-    """What the answers to one suite show."""
+def judged(comparison: Comparison, work: Work, answered: list[Script], audits: list[Audited] | None = None, done: list[Result] | None = None) -> Tested:
+    """What the answers to one suite show, of which some may have been compared."""
     found = Tested(work.name, comparison.version)
     if work.has_races:
         found.audits = None if audits is None else len(audits)
         found.wrong = wrong_counts(answered, comparison.known) if audits is None else wrong_audits(answered, comparison.known, audits)
-        found.rounds = rounds_of(work)
+        found.rounds = rounds_of(work, answered)
         found.results = [Result(it.name, len(it.lines), len(it.lines)) for it in answered]
+        return found
+    if done is not None:
+        found.results = done
         return found
     results = compared(comparison, answered)
     asserted = {it.name: it for it in work.asserted}
@@ -160,9 +273,17 @@ def judged(comparison: Comparison, work: Work, answered: list[Script], audits: l
     return found
 
 
-def rounds_of(work: Work) -> Rounds:
-    made = race_calls(work.asked())
-    return Rounds(len(made), max(made, default=0), max(race_calls(work.scripts), default=0))
+def rounds_of(work: Work, answered: list[Script]) -> Rounds:
+    names = {it.name for it in answered}
+    raced = [it for it in work.asked() if it.name in names]
+    calls, written = race_calls(raced), race_calls(work.scripts)
+    return Rounds(len(calls), max(calls, default=0), max(written, default=0), sum(map(calls_of_all, raced)))
+
+
+def calls_of_all(script: Script) -> int:
+    """How many calls all tasks of a script make: in a race each makes as many as it says."""
+    raced = race_calls([script])
+    return len(script.lines) - len(raced) + int(script.header.split()[4]) * sum(raced)
 
 
 def compared(comparison: Comparison, answered: list[Script]) -> list[Result]:
@@ -173,7 +294,24 @@ def compared(comparison: Comparison, answered: list[Script]) -> list[Result]:
 
 def wrong_counts(answered: list[Script], known: list[Known]) -> list[WrongCount]:
     """The scripts of races at whose end the counts are wrong."""
-    return [WrongCount(it.name, str(races.rests(it)), rule_of(it, known)) for it in answered if not races.is_right(it)]
+    return [wrong_count(it, rule_of(it, known)) for it in answered if not races.is_right(it)]
+
+
+def wrong_count(script: Script, known: Known | None, findings: tuple[str, ...] = ()) -> WrongCount:
+    calls = Script(script.name, script.header, [call_of(line) for line in script.lines])
+    return WrongCount(script.name, str(races.rests(script)), known, findings, calls, first_wrong(script))
+
+
+def first_wrong(script: Script) -> WrongRest | None:
+    """The first wrong count of a script, if one is: what races.is_right asks of each, in words."""
+    frames = int(script.header.split()[1])
+    lines = [(number, line) for number, line in enumerate(script.lines, 1) if races.TOLD.match(line)]
+    for (number, line), rest in zip(lines, races.rests(script)):
+        is_last = number == lines[-1][0]
+        if rest != races.Rest(frames, 0) if is_last else not 0 <= rest.resv <= rest.free:
+            expected = f"all {frames} pages free, and none reserved" if is_last else "a reserve count from 0 to the number of free pages"
+            return WrongRest(number, call_of(line), expected, rest)
+    return None
 
 
 def rule_of(script: Script, known: list[Known], clauses: frozenset[str] = frozenset()) -> Known | None:
@@ -198,4 +336,4 @@ def wrong_audit(script: Script, known: list[Known], audits: list[Audited]) -> Wr
     last, end = audits[-1], races.rests(script)[-1].resv
     if end != (due := last.has - last.should + last.unmarked):
         leaks.append(f"at the end the reserve count is {end}, and by the last audit it should be {due}")
-    return WrongCount(script.name, str(races.rests(script)), None if leaks else rule_of(script, known, clauses), (*leaks, *findings))
+    return wrong_count(script, None if leaks else rule_of(script, known, clauses), (*leaks, *findings))

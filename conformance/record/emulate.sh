@@ -17,6 +17,8 @@ output. The kernel of the machine that it runs on is left alone, and nobody has 
   --kernel FILE emulates with this kernel (vmlinuz)
   --package P   fetches this package of Debian's for --install, and emulates with its kernel
                 (linux-image-cloud-amd64, or what that stands for, unless told otherwise)
+  --append WORDS  more words for the kernel's command line
+  --leave       leaves its files in TMPDIR/emulate-*: the machine's console, and those of the machines before in 'consoles'
   --pause       stops the machine behind each race, until somebody has it go on by the monitor, a socket in TMPDIR/emulate-*/monitor
   --cpus N      that many processors (2)
   --memory MIB  that much memory (768)
@@ -31,7 +33,7 @@ Status: 0 all is recorded; 1 something failed, or differs; 2 a wrong word or scr
 here=$(cd "$(dirname "$(readlink -f "${BASH_SOURCE[0]}")")" && pwd)
 cache=${KIRVESSA_CACHE:-${XDG_CACHE_HOME:-$HOME/.cache}/kirvessa}
 package=linux-image-cloud-amd64
-kernel='' cpus=2 memory=768 seconds=900 boot_seconds=120 accel='' is_again='' is_install='' is_pausing='' program=''
+kernel='' cpus=2 memory=768 seconds=900 boot_seconds=120 accel='' is_again='' is_install='' is_pausing='' is_leaving='' append='' program=''
 files=()
 
 say() { echo "emulate: $*" >&2; }
@@ -47,11 +49,13 @@ number() { [[ $2 =~ ^[1-9][0-9]*$ ]] || misuse "$1 wants a number, not '$2'"; }
 read_words() {
     while [ $# -gt 0 ]; do
         case $1 in
-        --kernel | --package | --cpus | --memory | --seconds | --boot-seconds | --accel | --run) [ $# -gt 1 ] || misuse "$1 wants a word behind it" ;;&
+        --kernel | --package | --cpus | --memory | --seconds | --boot-seconds | --accel | --append | --run) [ $# -gt 1 ] || misuse "$1 wants a word behind it" ;;&
         --cpus | --memory | --seconds | --boot-seconds) number "$1" "$2" ;;&
         --again) is_again=1 ;;
         --install) is_install=1 ;;
         --pause) is_pausing=1 ;;
+        --leave) is_leaving=1 ;;
+        --append) append=$2; shift ;;
         --kernel) kernel=$2; shift ;;
         --package) package=$2; shift ;;
         --cpus) cpus=$2; shift ;;
@@ -180,15 +184,17 @@ await_machine() {
 }
 
 # (Where rep stosb is announced as fast (erms), the kernel clears pages with it, and an emulated processor is slow at that: without it a
-# race takes a third of the time.) What is recorded is in $work/recorded then, what the recorder told in $work/told, what the kernel told in $work/console.
+# race takes a third of the time. The console has warnings, too, a kernel that oopses stops, and a task that hangs for a minute is
+# reported; a kernel without these numbers says so, and goes on.) What is recorded is in $work/recorded then, what the recorder told in $work/told, what the kernel told in $work/console.
 boot_once() {
     local stopping=()
     [ -z "$is_pausing" ] || stopping=(-device pvpanic -action panic=pause -qmp "unix:$work/monitor,server=on,wait=off")
+    [ -z "$is_leaving" ] || cat "$work/console" >> "$work/consoles" 2> /dev/null || true
     rm -f "$work"/{recorded,told,console,monitor}
     touch "$work"/{recorded,told,console}
     timeout "$seconds" qemu-system-x86_64 -machine pc -accel "$accel" -cpu max,-erms -m "$memory" -smp "$cpus" \
         -nodefaults -no-user-config -display none -no-reboot -kernel "$kernel" -initrd "$work/initramfs" "${stopping[@]}" \
-        -append "console=ttyS0 quiet panic=-1 no_timer_check -- $*" \
+        -append "console=ttyS0 loglevel=5 oops=panic sysctl.kernel.hung_task_timeout_secs=60 panic=-1 no_timer_check $append -- $*" \
         -serial file:"$work/console" -serial file:"$work/recorded" -serial file:"$work/told" < /dev/null >&2 &
     machine=$!
     await_machine
@@ -276,7 +282,7 @@ work=$(mktemp -d "${TMPDIR:-/tmp}/emulate-XXXXXX")
 machine='' ended=''
 clean() {
     [ -z "$machine" ] || kill "$machine" 2> /dev/null || true
-    rm -rf "$work"
+    [ -n "$is_leaving" ] || rm -rf "$work"
 }
 trap clean EXIT
 trap 'exit 130' INT TERM HUP

@@ -31,7 +31,9 @@ class Audited:
 
 
 def read(told: dict) -> Audited:
-    """The audit's JSON, of the one pool that the scripts use."""
+    """The audit's JSON, of the one pool that the scripts use. Where two audits differ, one of them is wrong, and not the kernel."""
+    if told["compared"]["differences"]:
+        raise Problem("; ".join(told["compared"]["differences"]))
     pool = next(it for it in told["state"]["pools"] if it["name"] == "2048kB")
     files = [file for mount in told["state"]["mounts"] if mount["pool"] == pool["number"] for file in mount["files"]]
     outside = sum(not any(begin <= int(index) < to for begin, to in it["map"]["regions"]) for it in files for index in it["cache"])

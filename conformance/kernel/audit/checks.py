@@ -11,11 +11,15 @@ from kernel.audit.state import File, Mount, Pool, State, files_of, mounts_of, re
 
 @dataclass(frozen=True)
 class Finding:
-    """Something that is wrong. `owed` says what calls in flight may owe of it: then it needs not be wrong."""
+    """Something that is wrong. `owed` says what calls in flight may owe of it: then it needs not be wrong.
+
+    `at` names it in numbers, if pictures show it, too: by these it is compared with what `hugepool audit` finds.
+    """
 
     clause: str
     text: str
     owed: str = ""
+    at: tuple[int, ...] | None = None
 
 
 CLAUSES = {
@@ -33,14 +37,22 @@ CLAUSES = {
 
 def check(state: State) -> list[Finding]:
     """All that is wrong with a state or may be, in the order of the clauses."""
-    found = []
-    for pool in state.pools:
-        mounts = mounts_of(state, pool)
-        owed = owed_by(state.calls, pool, mounts)
-        found += [*check_translations(mounts), *check_places(pool, mounts, owed), *check_reserve(pool, mounts, owed), *check_pages(pool, owed)]
-        for mount in mounts:
-            found += [*check_used(mount, pool, owed), *(it for file in mount.files for it in check_file(file))]
-    return sorted(found, key=lambda it: list(CLAUSES).index(it.clause))
+    return sorted((it for pool in state.pools for it in check_pool(state, pool)), key=lambda it: list(CLAUSES).index(it.clause))
+
+
+def check_pool(state: State, pool: Pool) -> Iterator[Finding]:
+    mounts = mounts_of(state, pool)
+    owed = owed_by(state.calls, pool, mounts)
+    yield from check_translations(mounts)
+    yield from check_places(pool, mounts, owed)
+    yield from check_reserve(pool, mounts, owed)
+    yield from check_enough(pool, owed)
+    yield from check_pages(pool, owed)
+    for mount in mounts:
+        yield from check_used(mount, pool, owed)
+        yield from check_limits(mount)
+        for file in mount.files:
+            yield from check_file(file)
 
 
 def wrong(found: list[Finding]) -> list[Finding]:
@@ -52,22 +64,23 @@ def check_translations(mounts: list[Mount]) -> Iterator[Finding]:
     for file in files_of(mounts):
         for it in file.mappings:
             for index, frame in it.translations:
-                page = file.cache.get(index)
+                page, at = file.cache.get(index), (file.address, it.space, index, frame)
                 if it.shared and frame != page:
                     has = f"has its page in frame {page:#x}" if page is not None else "has no page"
-                    yield Finding("agree", f"{who(it)} maps index {index} of {file.name} to frame {frame:#x}, and the file {has} there")
+                    yield Finding("agree", f"{who(it)} maps index {index} of {file.name} to frame {frame:#x}, and the file {has} there", at=at)
                 if index >= file.size and not file.locked:
-                    yield Finding("size", f"{who(it)} maps index {index} of {file.name} to frame {frame:#x}, and its size is {file.size}")
+                    text = f"{who(it)} maps index {index} of {file.name} to frame {frame:#x}, and its size is {file.size}"
+                    yield Finding("size", text, at=at if it.shared else None)
 
 
 def check_places(pool: Pool, mounts: list[Mount], owed: Owed) -> Iterator[Finding]:
     for frame, its in places_in(pool, mounts).items():
         if len(its) > 1:
-            yield Finding("place", f"frame {frame:#x} is at once {' and '.join(its)}", owed.moving)
+            yield Finding("place", f"frame {frame:#x} is at once {' and '.join(its)}", owed.moving, (frame,))
         elif frame not in pool.active and not its[0].startswith("free"):
             yield Finding("place", f"frame {frame:#x} is {its[0]}, and is on no list of its pool", owed.moving)
     for frame in {frame for _, frame in pool.free} & pool.active.keys():
-        yield Finding("place", f"frame {frame:#x} is on a free list and on the list of those in use", owed.moving)
+        yield Finding("place", f"frame {frame:#x} is on a free list and on the list of those in use", owed.moving, (frame,))
 
 
 def places_in(pool: Pool, mounts: list[Mount]) -> dict[int, list[str]]:
@@ -83,12 +96,14 @@ def places_in(pool: Pool, mounts: list[Mount]) -> dict[int, list[str]]:
 
 
 def add_private(file: File, places: dict[int, list[str]]) -> None:
-    """The frames of a file's private mappings that aren't its own, and those of shared ones that should be."""
-    for it in file.mappings:
-        for index, frame in it.translations:
-            place = f"private memory at index {index} of {file.name}"
-            if not it.shared and file.cache.get(index) != frame and place not in places[frame]:
-                places[frame].append(place)
+    """The frames of a file's private mappings that aren't its pages."""
+    for index, frame in private_places(file):
+        places[frame].append(f"private memory at index {index} of {file.name}")
+
+
+def private_places(file: File) -> set[tuple[int, int]]:
+    """Of private memory over a file each index and frame once, whoever maps it."""
+    return {(index, frame) for it in file.mappings if not it.shared for index, frame in it.translations if file.cache.get(index) != frame}
 
 
 def check_reserve(pool: Pool, mounts: list[Mount], owed: Owed) -> Iterator[Finding]:
@@ -100,9 +115,14 @@ def check_reserve(pool: Pool, mounts: list[Mount], owed: Owed) -> Iterator[Findi
         more = f"; {later} will come back with pages that the reserve maps don't have" if later else ""
         more += f"; {back} will come back if faults in flight fail" if back else ""
         text = f"resv_huge_pages of {pool.name} is {has} and should be {should}: {abs(has - should)} {word}{more}"
-        yield Finding("reserve", text, owed.of_reserve(has - should))
-    if has > len(pool.free) or has < 0:
-        yield Finding("enough", f"{has} pages of {pool.name} are reserved, and {len(pool.free)} are free", owed.of_reserve(has) if has < 0 else "")
+        yield Finding("reserve", text, owed.of_reserve(has - should), (should,))
+
+
+def check_enough(pool: Pool, owed: Owed) -> Iterator[Finding]:
+    has = pool.counts["resv"]
+    if not 0 <= has <= len(pool.free):
+        text = f"{has} pages of {pool.name} are reserved, and {len(pool.free)} are free"
+        yield Finding("enough", text, owed.of_reserve(has) if has < 0 else "", ())
 
 
 def check_pages(pool: Pool, owed: Owed) -> Iterator[Finding]:
@@ -129,9 +149,15 @@ def check_used(mount: Mount, pool: Pool, owed: Owed) -> Iterator[Finding]:
     if it.max != -1 and it.used != (should := used_in(mount, pool)):
         word = "used pages lost" if it.used < should else "used pages leaked: the mount refuses that many pages too early"
         text = f"used_hpages of {mount.places[0]} is {it.used} and should be {should}: {abs(it.used - should)} {word}"
-        yield Finding("used", text, owed.of_used(it.used - should))
-    if it.max != -1 and it.used > it.max:
-        yield Finding("used", f"used_hpages of {mount.places[0]} is {it.used}, and its size is {it.max}")
+        yield Finding("used", text, owed.of_used(it.used - should), (it.address, should))
+
+
+def check_limits(mount: Mount) -> Iterator[Finding]:
+    it = mount.subpool
+    if it is None:
+        return
+    if it.max != -1 and not 0 <= it.used <= it.max:
+        yield Finding("used", f"used_hpages of {mount.places[0]} is {it.used}, and its size is {it.max}", at=(it.address,))
     if it.min != -1 and not 0 <= it.rsv <= it.min:
         yield Finding("used", f"rsv_hpages of {mount.places[0]} is {it.rsv}, and its min_size is {it.min}")
 
@@ -140,7 +166,7 @@ def check_file(file: File) -> Iterator[Finding]:
     regions, it = file.map.regions, file.map
     locked = f"the reserve map of {file.name} is locked" if it.locked else ""
     if any(begin >= to for begin, to in regions) or any(one[1] > other[0] for one, other in zip(regions, regions[1:])):
-        yield Finding("map", f"the reserve map of {file.name} has {regions}", locked)
+        yield Finding("map", f"the reserve map of {file.name} has {regions}", locked, (file.address,))
     if it.spare != it.spare_listed or it.in_progress > it.spare:
         yield Finding("map", f"the reserve map of {file.name}: {it.in_progress} changes in progress, {it.spare} spare descriptors counted, "
                              f"{it.spare_listed} listed", locked)

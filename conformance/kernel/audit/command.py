@@ -8,7 +8,7 @@ from typing import TYPE_CHECKING
 
 import packages
 from kernel import kernels, report as kernel_report
-from kernel.audit import picture, report, who
+from kernel.audit import picture, proved, report, who
 from kernel.audit.checks import Finding, check, wrong
 from kernel.audit.opened import first_line, need_drgn, opened
 from kernel.audit.state import State
@@ -24,9 +24,9 @@ ABOUT = """Prints who has reserved the huge pages of a kernel, whether its count
   ./kernel audit --core vmcore --vmlinux vmlinux-6.1.0-56    a dump of kdump's, or of QEMU's dump-guest-memory
   ./kernel audit --without-symbols                           bounds alone, for any user
 
-It only reads. docs/AUDIT.md says how to read each row, and what to do next.
+It only reads. docs/AUDIT.md says how to read each row, and what to do next. Where ./hugepool is built, `hugepool audit` has to find the same.
 """
-AFTER = """Status: 0 nothing is wrong; 1 something is; 2 it could not be read: one line says why."""
+AFTER = """Status: 0 nothing is wrong; 1 something is, or hugepool audit finds otherwise; 2 it could not be read: one line says why."""
 # readings of a running kernel: what moves between them isn't wrong for good; seconds between
 READINGS, BETWEEN = 3, 0.2
 
@@ -75,7 +75,8 @@ def audited(core: Path | None, symbols: list[Path], readings: int) -> tuple[Stat
         raise
     except Exception as why:  # pylint: disable=broad-except  (drgn raises Exception itself; whatever it is, nothing was audited)
         what = f"the dump {core}" if core else "the kernel's memory"
-        raise Problem(f"{what} can't be read to its end: {type(why).__name__}: {first_line(why)}") from why
+        left_out = " (makedumpfile left it out: it has to know this kernel, or to filter less)" if "Excluded page" in str(why) else ""
+        raise Problem(f"{what} can't be read to its end: {type(why).__name__}: {first_line(why)}{left_out}") from why
 
 
 def write_pictures(folder: Path | None, state: State) -> None:
@@ -85,8 +86,14 @@ def write_pictures(folder: Path | None, state: State) -> None:
         folder.mkdir(parents=True, exist_ok=True)
     except OSError as why:
         raise Problem(f"{folder}: {why.strerror}") from why
-    for name, text in picture.pictures(state):
-        kernel_report.write(str(folder / f"{name}.picture"), text)
+    for it in picture.pictures(state):
+        kernel_report.write(str(folder / f"{it.name}.picture"), it.text())
+
+
+def compared(state: State) -> proved.Compared:
+    """How far the proved audit finds the same, if its program is there."""
+    path = proved.program()
+    return proved.compared(state, path, proved.asking(path)) if path else proved.Compared()
 
 
 def run(options: argparse.Namespace) -> int:
@@ -98,7 +105,8 @@ def run(options: argparse.Namespace) -> int:
     need_drgn()
     symbols = [symbols_of(options.package)] if options.package else options.vmlinux
     state, found, moved = audited(options.core, symbols, options.readings or (1 if options.core else READINGS))
-    kernel_report.write(options.json, report.json_text(state, found, moved))
+    beside = compared(state)
+    kernel_report.write(options.json, report.json_text(state, found, moved, beside))
     write_pictures(options.pictures, state)
-    print(report.text(state, found, moved))
-    return 1 if wrong(found) else 0
+    print("\n".join([report.text(state, found, moved), *beside.lines()]))
+    return 1 if wrong(found) or beside.differences else 0

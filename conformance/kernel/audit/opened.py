@@ -124,11 +124,11 @@ def check_build(core: Path | None, symbols: list[Path], release: str) -> None:
 def check_symbols(program: "Program", release: str) -> None:  # noqa: F821
     """Refuses symbols by which the kernel's name isn't where it is (drgn takes any file), and kernels without hugetlbfs."""
     try:
-        found = program["init_uts_ns"].name.release.string_().decode()
-    except Exception:  # pylint: disable=broad-except  (drgn raises Exception itself)
-        found = None
+        found, reason = program["init_uts_ns"].name.release.string_().decode(), ""
+    except Exception as why:  # pylint: disable=broad-except  (drgn raises Exception itself)
+        found, reason = None, f" ({first_line(why)})"
     if found != release:
-        raise Problem(f"the symbols are of another kernel than Linux {release}, or the dump lacks the kernel's own memory")
+        raise Problem(f"the symbols are of another kernel than Linux {release}, or the dump lacks the kernel's own memory{reason}")
     try:
         program["hugetlbfs_fs_type"], program["hstates"]  # pylint: disable=pointless-statement
     except LookupError as why:

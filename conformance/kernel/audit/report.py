@@ -6,6 +6,7 @@ from dataclasses import asdict
 from typing import Any
 
 from kernel.audit.checks import CLAUSES, Finding, places_in, wrong
+from kernel.audit.proved import Compared
 from kernel.audit.state import File, Mount, Pool, State, files_of, mounts_of, reserved_in, used_in, who
 
 # so many findings of a clause, and frames that nobody has, are printed
@@ -112,9 +113,9 @@ def text(state: State, found: list[Finding], moved: int = 0) -> str:
     return "\n".join(lines + ([f"{moved} findings were in one reading and not in another, and are left out."] if moved else []))
 
 
-def json_text(state: State, found: list[Finding], moved: int = 0) -> str:
-    """All that was read, the findings, and for each pool what its counts should be."""
+def json_text(state: State, found: list[Finding], moved: int, beside: Compared) -> str:
+    """All that was read, the findings, for each pool what its counts should be, and how far the proved audit finds the same."""
     recomputed = {pool.name: {**asdict(reserved_in(mounts_of(state, pool))), "all": reserved_in(mounts_of(state, pool)).all} for pool in state.pools}
     data = {"state": asdict(state), "recomputed": recomputed, "findings": [asdict(it) for it in found], "left_out": moved,
-            "files": len(files_of(state.mounts))}
+            "files": len(files_of(state.mounts)), "compared": asdict(beside)}
     return json.dumps(data, indent=1) + "\n"
