@@ -236,8 +236,9 @@ def cases() -> list[Case]:
         # (the lines of the first part are written while the second is explored)
         explored("explore --runs 513", "pool 1 1 1 1\n")._replace(lines=513),
         plain("schedule --seed 7", script),
-        explored("find --seed 7 --answer 1:2=beyond", script),
-        plain("minimize --answer 1:2=beyond", example("truncate-overtakes-a-store.trace")),
+        explored("find --seed 7 --answer 1:2=beyond", script)._replace(status=2),
+        plain("find --every --final resv=1", "pool 1 1 1 1\nbegin 1 map 0 0 1\n")._replace(status=2),
+        plain("minimize --answer 1:2=beyond", example("truncate-overtakes-a-store.trace"))._replace(status=2),
         raced("race --times 2", script)._replace(lines=2),
         raced("race --times 1 --cut 2", script),
         raced("race --times 1 --deny 100 --kill 200", script),
@@ -259,14 +260,14 @@ def stream_cases() -> list[Case]:
     found += [plain_words(words, trace) for words in more]
     found += [plain_words(words, script) for words in ("schedule", "explore --runs 600", "explore --summary --runs 60")]
     found += [plain_words("format", trace), plain_words("audit", PICTURE)._replace(status=2)]
-    found += [plain_words("minimize --final resv=0", trace)]
+    found += [plain_words("minimize --final resv=0", trace)._replace(status=2)]
     # (a race writes each line by itself)
     found += [Case("race --times 3", short, is_race, is_race_front), Case("race --trace", short, begins_alike, begins_alike)]
     writes = [plain_words(words, "")._replace(fails=("WRITE",)) for words in ("work readback", "--help")]
     # (each line is answered before the next is read, so a read that fails behind the last leaves the output whole)
     writes += [plain_words("step", short)._replace(fails=("WRITE",))]
     # (which run was found is said before the last write)
-    reads = [plain_words("find --final resv=1", script)._replace(fails=("READ",))]
+    reads = [plain_words("find --final resv=1", script)._replace(fails=("READ",), status=2)]
     return [*(it._replace(fails=("READ", "WRITE")) for it in found), *writes, *reads]
 
 

@@ -37,8 +37,12 @@ SAID = [
     ("begin 1 store 0 18446744073709551616", "18446744073709551616 is above 18446744073709551615"),
     ("begin 1", "the line has 2 words; a begin has 3 or more"),
     ("begin one exit", "one is not a number"),
-    ("begin 1 mmap 0 0 1", "mmap is not a call"),
-    ("stop 1", "stop is not an event"),
+    ("begin 1 mmap 0 0 1", "mmap is not a call: did you mean map?"),
+    ("stop 1", "stop is not an event: did you mean step?"),
+    ("begin 1 truncate 0 1", "truncate is not a call: did you mean trunc?"),
+    ("begin 1 fallocate 0 0 1", "fallocate is not a call"),
+    ("map 1 0 0 1", "map is not an event: did you mean begin TASK map?"),
+    ("go 1", "go is not an event"),
     ("step 01", "01 begins with a zero"),
     ("step -1", "-1 is not a number"),
     ("step  1", "words must be separated by exactly one space, with no other spaces"),
@@ -52,6 +56,7 @@ SAID = [
 ]
 # those lines of them that the loose form has
 LOOSE = {"step 1\r", "step  1", "step 1 ", "", "step\t1"}
+EMPTY = "hugepool: if another command writes it, that command may have failed\n"
 FORMAT = "hugepool: hugepool format accepts this line, and prints a trace that this command accepts\n"
 SAID_OF_HEADERS = [
     ("pool 0 1 1 1", "the header gives 0 frames; a pool has 1 to 4096"),
@@ -98,7 +103,8 @@ def said_of(number: int, line: str, why: str, is_loose: bool = False) -> Ran:
     """What comes of a trace whose line of this number is wrong."""
     where = "line 1 is not a pool header" if number == 1 else f"line {number} is not allowed here"
     shown = line.replace("\t", "\\t").replace("\r", "\\r")
-    faults = f'hugepool: {where}\nhugepool: {why}{f": {chr(34)}{shown}{chr(34)}" if line else ""}\n'
+    colon = "" if why.endswith("?") else ":"
+    faults = f'hugepool: {where}\nhugepool: {why}{f"{colon} {chr(34)}{shown}{chr(34)}" if line else ""}\n'
     return Ran(1, "", faults + (FORMAT if is_loose else ""))
 
 
@@ -128,7 +134,8 @@ def tries(program: Path) -> Iterator[tuple[str, bool]]:
         yield f"byte {byte} is shown", said == said_of(2, f"step {shown}", f"byte {byte} is not allowed in a line")
     marked = run(program, "check", b"\xef\xbb\xbf" + f"{HEADER}\n".encode())
     yield "a byte order mark", marked == said_of(1, f"\\xef\\xbb\\xbf{HEADER}", "the header begins with a byte order mark", True)
-    yield "an empty trace", run(program, "check") == said_of(1, "", "the input is empty")
+    empty = said_of(1, "", "the input is empty")
+    yield "an empty trace", run(program, "check") == empty._replace(err=empty.err + EMPTY)
     cut = run(program, "check", f"{HEADER}\nstep 1")
     yield "a line without its end", cut == said_of(2, "step 1", "the last line has no line feed", True)
     yield from long_lines(program)

@@ -6,6 +6,7 @@ own (a socket whose other end is reset, a limit on the size of files, /dev/full)
 """
 from __future__ import annotations
 
+import os
 import re
 import resource
 import shlex
@@ -22,6 +23,8 @@ from programs import Ran
 
 # a run that takes longer hangs
 SECONDS = 600
+# in command lines and on standard error this stands for the name of a file that has the input
+NAMED = "{file}"
 # `LINE x12` stands for twelve lines
 REPEATED = re.compile(r"^(.*) x(\d+)$", re.MULTILINE)
 
@@ -41,6 +44,8 @@ class Row:
     breaks: bool = False
     room: list[int] | str | None = None
     stderr_is_full: bool = False
+    # the reader of the output leaves before anything is written
+    leaves: bool = False
     # what is written: a text, or names of the file's texts; or some of it
     stdout: str | None = None
     stdout_starts: str = ""
@@ -126,17 +131,25 @@ def limited(room: int) -> Callable[[], None]:
     return limit
 
 
+def unread() -> IO[bytes]:
+    """An output that nobody reads."""
+    reads, writes = os.pipe()
+    os.close(reads)
+    return os.fdopen(writes, "wb")
+
+
 def run(program: Path, words: str, row: Row, room: int | None) -> Ran:
     """Runs the program over the row's streams, with room for so many bytes of output where a number is given."""
-    with tempfile.TemporaryFile() as source, tempfile.TemporaryFile() as out, open("/dev/full", "wb") as full:
+    with tempfile.NamedTemporaryFile() as source, tempfile.TemporaryFile() as out, open("/dev/full", "wb") as full, unread() as left:
         source.write(row.read())
+        source.flush()
         source.seek(0)
-        stdin: IO[bytes] | socket.socket = broken(row.read()) if row.breaks else source
+        stdin: IO[bytes] | socket.socket = broken(row.read()) if row.breaks else source.file
         ran = subprocess.run(
-            ["hugepool", *shlex.split(words)],
+            ["hugepool", *shlex.split(words.replace(NAMED, source.name))],
             executable=program,
             stdin=stdin,
-            stdout=out,
+            stdout=left if row.leaves else out,
             stderr=full if row.stderr_is_full else subprocess.PIPE,
             preexec_fn=None if room is None else limited(room),
             timeout=SECONDS,
@@ -145,7 +158,8 @@ def run(program: Path, words: str, row: Row, room: int | None) -> Ran:
         if isinstance(stdin, socket.socket):
             stdin.close()
         out.seek(0)
-        return Ran(ran.returncode, out.read().decode(errors="replace"), (ran.stderr or b"").decode(errors="replace"))
+        said = (ran.stderr or b"").decode(errors="replace").replace(source.name, NAMED)
+        return Ran(ran.returncode, out.read().decode(errors="replace"), said)
 
 
 def rooms(row: Row, most: int) -> list[int]:

@@ -196,11 +196,13 @@ def unproved(room: Room) -> Iterator[tuple[str, bool]]:
 
 def proofs(room: Room) -> Iterator[tuple[str, bool]]:
     """Calls around a proof."""
-    where = lambda: room.call((), HUGEPOOL="path").out.strip().removeprefix(str(room.top))
+    where = lambda how="path": room.call((), HUGEPOOL=how).out.strip().removeprefix(str(room.top))
+    yield "where no program is there, none is compiled", room.call((), HUGEPOOL="there") == Ran(1, "", "") and room.calls("try") == 0
     yield "for tests that need no proof a path is printed", where() == "/crates/hugepool/out/unproved" and room.calls("try") == 1
+    yield "then it is there", where("there") == "/crates/hugepool/out/unproved"
     yield "HUGEPOOL=proved proves", room.proved(1, HUGEPOOL="proved") and room.calls("try") == 1
     yield "then each call runs that", room.call(read="a line\n") == Ran(0, "a b by hugepool run 1\na line\n", "")
-    yield "so do tests", where() == "/crates/hugepool/out/hugepool" and room.proved(1, HUGEPOOL="now")
+    yield "so do tests", where() == where("there") == "/crates/hugepool/out/hugepool" and room.proved(1, HUGEPOOL="now")
     told = room.call(("build",))
     yield "what is proved isn't built again", told[:2] == (0, "") and "proved" in told.err and room.calls("run") == 1
     (room.top / "other").mkdir()
@@ -208,6 +210,7 @@ def proofs(room: Room) -> Iterator[tuple[str, bool]]:
     (room.top / "link").symlink_to("other/link")
     yield "a link to a link leads to it", room.proved(1, launcher="link")
     room.write("crates/a/src/main.rt", "new")
+    yield "after an edit neither program is there", where("there") == ""
     is_there = where() == "/crates/hugepool/out/unproved"
     yield "after an edit tests prove nothing", is_there and room.call(HUGEPOOL="now").out == "a b by hugepool try 2\n"
     yield "others do", room.proved(2) and room.call() == Ran(0, "a b by hugepool run 2\n", "")

@@ -48,12 +48,12 @@ impl<W: std::io::Write> std::io::Write for Flushed<W> {
     }
 
     fn flush(&mut self) -> io::Result<()> {
-        if self.1 { Err(io::Error::from(io::ErrorKind::BrokenPipe)) } else { Ok(()) }
+        if self.1 { Err(io::Error::from(io::ErrorKind::StorageFull)) } else { Ok(()) }
     }
 }
 
 """
-FLUSHED, CAME, RACERS = "Noted::new(rt.stdout())", "        self.came.fetch_add(", "        racers,\n        count,\n"
+FLUSHED, CAME, RACERS = "rt.stdout(), palette", "        self.came.fetch_add(", "        racers,\n        count,\n"
 # what is changed in the copy: in the one source of the program that has the first text, each of these, which stands there once
 CHANGES = [
     (KEEPS, [(KEEPS, GOES_WRONG)]),
@@ -62,7 +62,7 @@ CHANGES = [
         [
             ("use std::io;\n", "use std::env::Env;\nuse std::io;\n"),
             ("fn main(", f"{OUTPUT}fn main("),
-            (FLUSHED, 'Noted::new(Flushed(rt.stdout(), rt.var("FLUSH_FAILS", &mut [0; 8]).is_ok()))'),
+            (FLUSHED, 'Flushed(rt.stdout(), rt.var("FLUSH_FAILS", &mut [0; 8]).is_ok()), palette'),
         ],
     ),
     (CAME, [(CAME, f"        if self.racers == 5 {{ return; }}\n{CAME}")]),
@@ -74,14 +74,14 @@ WITH = {
     "explain": ("explain", "explain --compact --linux --tasks 1 --lines 2..3", "explain --json --lines 2..3"),
     "replay": ("replay", "replay --json"),
     "draw": ("draw", "draw --html"),
-    "minimize": ("minimize --final resv=0",),
+    "minimize": ("minimize --final resv=0 --anywhere",),
     "race": ("race --times 2", "race --trace"),
     "work": ("work readback", "work readback --trace"),
-    "find": ("find --final resv=1",),
+    "find": ("find --final resv=1", "find --every --final resv=1"),
     "help": ("--help",),
 }
 # what a command reads that reads no script, and its status where writing fails, if it isn't 1
-READS, STATUS = {"audit": b"picture 0 0 0 0\nend\n"}, {"audit": 2}
+READS, STATUS = {"audit": b"picture 0 0 0 0\nend\n"}, {"audit": 2, "find": 2, "minimize": 2}
 
 
 def told_of(launcher: Path, words: str, read: bytes, **more: str) -> Ran:
@@ -123,7 +123,7 @@ def flushes(copy: Path) -> Iterator[tuple[str, bool]]:
         name = words.split()[0]
         good = told_of(copy / "hugepool", words, READS.get(name, script))
         failed = told_of(copy / "hugepool", words, READS.get(name, script), FLUSH_FAILS="1")
-        wanted = (STATUS.get(name, 1), len(good.out), f"{NOTICE}hugepool: writing failed\n")
+        wanted = (STATUS.get(name, 1), len(good.out), f"{NOTICE}hugepool: writing failed\nhugepool: no storage space\n")
         yield f"{words} flushes its output", good.status == 0 and (failed.status, len(failed.out), failed.err) == wanted
 
 
