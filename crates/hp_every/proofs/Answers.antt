@@ -17,7 +17,7 @@ use Rattle.hp_hunt.specs.declared.watching.Watch.{Watch}
 use Rattle.hp_every.specs.declared.turn.Turn.{Turn}
 use Rattle.hp_every.specs.Schedules as schedules
 use Rattle.hp_every.specs.Schedules.{MayTurn, NoScheduleMeets, Place, ScheduleMeets, plan_for}
-use Rattle.hp_every.specs.Search.{AreAsGood, AreBehind, Ask, GoesOn, HasTurns, IsPath, IsRun, MayGoOn, MeetsHere, PathState}
+use Rattle.hp_every.specs.Search.{AreAsGood, AreBehind, Question, GoesOn, HasTurns, IsPath, IsRun, MayGoOn, MeetsHere, PathState}
 use Rattle.hp_every.specs.Search.{search_words}
 use Rattle.hp_every.specs.Turns.{AreAllTurns, turn_of, turns_of}
 use Rattle.hp_every.proofs.Good.{by_path, know_by_turns, last_turn, run_of, same_by_turns}
@@ -27,7 +27,7 @@ use Rattle.hp_every.proofs.Sames.{looks, may_of, may_there, place_is, split, tur
 -- ---- schedules, turn by turn
 
 -- what may be done behind the same turns
-pub may_at : (a : Ask) (turns : List Turn) (x y : HasTurns a turns) (next : Turn) → MayTurn (plan_for a.script) x.last next
+pub may_at : (a : Question) (turns : List Turn) (x y : HasTurns a turns) (next : Turn) → MayTurn (plan_for a.script) x.last next
     → MayTurn (plan_for a.script) y.last next
 may_at a turns x y next may =
     let here = place_is a x.first x.moments x.last x.run in
@@ -35,7 +35,7 @@ may_at a turns x y next may =
     may_there (plan_for a.script) x.last y.last (looks a.script x.last y.last here there (same_by_turns a turns x y).on) next may
 
 -- so many turns, and the next
-turn_at : (a : Ask) (f : CoreState) (ms : List Moment) (p : Place) → IsRun a f ms p → (k : ℕ) (d : Turn) → k < length (turns_of ms)
+turn_at : (a : Question) (f : CoreState) (ms : List Moment) (p : Place) → IsRun a f ms p → (k : ℕ) (d : Turn) → k < length (turns_of ms)
     → MayGoOn a (take k (turns_of ms)) (slice_index_or (turns_of ms) k d)
 turn_at a f [] p run k d within = absurd (omega (arith, within))
 turn_at a f (m ∷ ms) p run k d within =
@@ -59,7 +59,7 @@ turn_at a f (m ∷ ms) p run k d within =
           }))))
     ]
 
-pub may_at_place : (a : Ask) (turns : List Turn) → HasTurns a turns → (k : ℕ) (d : Turn) → k < length turns
+pub may_at_place : (a : Question) (turns : List Turn) → HasTurns a turns → (k : ℕ) (d : Turn) → k < length turns
     → MayGoOn a (take k turns) (slice_index_or turns k d)
 may_at_place a turns h k d within =
     subst (λ (xs : List Turn). MayGoOn a (take k xs) (slice_index_or xs k d)) h.made
@@ -67,7 +67,7 @@ may_at_place a turns h k d within =
 
 -- ---- what comes after a schedule
 
-pub all_after : (a : Ask) (s : PathState) (here : HasTurns a s.turns) (turns : List Turn) (next : List PathState)
+pub all_after : (a : Question) (s : PathState) (here : HasTurns a s.turns) (turns : List Turn) (next : List PathState)
     → AreAllTurns (plan_for a.script) here.last turns → AreBehind a s turns next → AreAllAfter (GoesOn a) (AreAsGood a) s next
 unfolding AreAllTurns IsCovered
 all_after a s here turns next all behind = record {
@@ -133,7 +133,7 @@ all_knowing (c ∷ cs) moments k =
     each w ws one rest (suc j) d within = rest j d (omega (arith, within))
 
 -- a schedule as a search would keep it
-path_of : (a : Ask) (f : CoreState) (ms : List Moment) (p : Place) → IsRun a f ms p → (ws : List Watch) → AllKnow a.conditions ws ms
+path_of : (a : Question) (f : CoreState) (ms : List Moment) (p : Place) → IsRun a f ms p → (ws : List Watch) → AllKnow a.conditions ws ms
     → MeetsHere (plan_for a.script) a.conditions f ms p ⊎ (MeetsHere (plan_for a.script) a.conditions f ms p → ⊥)
     → (s : PathState) × IsPath a s × (s.turns ≡ turns_of ms)
 path_of a f ms p run ws know (inl meets) = (
@@ -168,13 +168,13 @@ path_of a f ms p run ws know (inr none) = (
 )
 
 -- each schedule is reached by a search, in as many turns as it has
-record IsKept (a : Ask) (first : PathState) (ms : List Moment) : Type 0 where
+record IsKept (a : Question) (first : PathState) (ms : List Moment) : Type 0 where
   pub state : PathState
   pub reached : IsReached (GoesOn a) first (length ms) state
   pub path : IsPath a state
   pub turns : state.turns ≡ turns_of ms
 
-kept : (a : Ask) (first : PathState) → IsPath a first → first.turns ≡ [] → (f : CoreState) (ms : List Moment) (p : Place) → IsRun a f ms p
+kept : (a : Question) (first : PathState) → IsPath a first → first.turns ≡ [] → (f : CoreState) (ms : List Moment) (p : Place) → IsRun a f ms p
     → Doubly (IsKept a first ms)
 unfolding IsReached
 kept a first path none f [] p run k = k (record { state = first; reached = refl; path = path; turns = none })
@@ -198,14 +198,14 @@ kept a first path none f (m ∷ ms) p run k =
     })))))
 
 -- what is kept of a schedule tells whether it meets all conditions
-meets_as : (a : Ask) (s : PathState) (x : IsPath a s) (y : HasTurns a s.turns) → MeetsHere (plan_for a.script) a.conditions y.first y.moments y.last
+meets_as : (a : Question) (s : PathState) (x : IsPath a s) (y : HasTurns a s.turns) → MeetsHere (plan_for a.script) a.conditions y.first y.moments y.last
     → s.met ≡ true
 meets_as a s x y meets =
     let same = same_by_turns a s.turns (run_of a s x) y in
     x.met.1 (meets_there a y.first x.first y.moments x.moments y.last x.last x.watches y.run x.run (turned_round x.last y.last same)
     (know_by_turns a s.turns (run_of a s x) y x.watches x.know) x.know meets)
 
-met_as : (a : Ask) (s : PathState) (x : IsPath a s) (y : HasTurns a s.turns) → s.met ≡ true
+met_as : (a : Question) (s : PathState) (x : IsPath a s) (y : HasTurns a s.turns) → s.met ≡ true
     → MeetsHere (plan_for a.script) a.conditions y.first y.moments y.last
 met_as a s x y met =
     let same = same_by_turns a s.turns (run_of a s x) y in
@@ -213,7 +213,7 @@ met_as a s x y met =
     (know_by_turns a s.turns (run_of a s x) y x.watches x.know) (x.met.0 met)
 
 -- where nothing that is reached in so many turns is met, no schedule of so many events meets the conditions
-no_schedule : (a : Ask) (first : PathState) → IsPath a first → first.turns ≡ [] → (moments : List Moment)
+no_schedule : (a : Question) (first : PathState) → IsPath a first → first.turns ≡ [] → (moments : List Moment)
     → NoneMeets (GoesOn a) (λ s. s.met ≡ true) first (length moments) → ScheduleMeets a.script a.denials a.kills a.conditions moments → ⊥
 unfolding NoneMeets
 no_schedule a first path none moments never_met h =
@@ -222,11 +222,11 @@ no_schedule a first path none moments never_met h =
     (record { first = h.first; moments = moments; last = h.last; run = h.schedule; made = sym there.turns })
     (record { looked_at = h.looked_at; meets = h.meets })))
 
-pub never_means : (a : Ask) (first : PathState) → IsPath a first → first.turns ≡ []
+pub never_means : (a : Question) (first : PathState) → IsPath a first → first.turns ≡ []
     → ((turns : ℕ) → NoneMeets (GoesOn a) (λ s. s.met ≡ true) first turns) → NoScheduleMeets a.script a.denials a.kills a.conditions
 never_means a first path none never_met moments h = no_schedule a first path none moments (never_met (length moments)) h
 
-pub cut_means : (a : Ask) (first : PathState) → IsPath a first → first.turns ≡ [] → (n : ℕ)
+pub cut_means : (a : Question) (first : PathState) → IsPath a first → first.turns ≡ [] → (n : ℕ)
     → NoneBefore (GoesOn a) (λ s. s.met ≡ true) first n
     → (moments : List Moment) → ScheduleMeets a.script a.denials a.kills a.conditions moments → n ≤ length moments
 unfolding NoneBefore
@@ -236,7 +236,7 @@ cut_means a first path none n never_met moments h = elim (cases_lt (length momen
 ]
 
 -- what is reached is a schedule of so many turns
-pub reached_path : (a : Ask) (first : PathState) → IsPath a first → first.turns ≡ [] → (n : ℕ) (s : PathState)
+pub reached_path : (a : Question) (first : PathState) → IsPath a first → first.turns ≡ [] → (n : ℕ) (s : PathState)
     → IsReached (GoesOn a) first n s → IsPath a s × (length s.turns ≡ n)
 unfolding IsReached
 reached_path a first path none zero s is =
@@ -254,7 +254,7 @@ turn_count (m ∷ before) =
     length-append (turns_of before) (turn_of m.event ∷ []) ∙ (ap (λ (n : ℕ). n + 1) (turn_count before) ∙ omega arith)
 
 -- a shortest path is a shortest schedule, by whatever moments its turns were made
-pub met_means : (a : Ask) (first s : PathState) (n : ℕ) → IsPath a first → first.turns ≡ []
+pub met_means : (a : Question) (first s : PathState) (n : ℕ) → IsPath a first → first.turns ≡ []
     → IsShortest (GoesOn a) (λ s. s.met ≡ true) first s n → (run : HasTurns a s.turns) (events : List Event) → events_of run.moments ≡ events
     → schedules.IsShortest a.script a.denials a.kills a.conditions events
 met_means a first s n path none h run events told =

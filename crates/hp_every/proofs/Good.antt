@@ -1,11 +1,6 @@
 -- Schedules that stand in the same place, and have seen the same, are as good as each other.
 use Rattle.std.proofs.Common.{◌≡◌, ℕ, refl, sym, ◌∙◌, subst, List, [], ◌∷◌, ◌++◌, length}
 use Rattle.std.specs.Prelude.{Bool, true, false, map}
-use Rattle.std.proofs.Common.{eqb-true}
-use Rattle.std.specs.Cmp.Lexicographic.{pointwise}
-use Rattle.std.specs.Prelude.{nat_eq}
-use Rattle.hp_every.proofs.Ending.{first_true, second_true}
-use Rattle.hp_laws.proofs.Deciding.{never}
 use Rattle.hp_core.specs.State.{CoreState, as_state}
 use Rattle.hp_watch.specs.Moments.{Moment}
 use Rattle.hp_key.specs.Numbers.{counted}
@@ -18,11 +13,11 @@ use Rattle.hp_hunt.specs.declared.watching.Watch.{Watch}
 use Rattle.hp_every.specs.declared.turn.Turn.{Turn}
 use Rattle.hp_every.specs.Places.{AreOne, IsPlaceOf, place_words}
 use Rattle.hp_every.specs.Schedules.{AnyTurn, Place, plan_for}
-use Rattle.hp_every.specs.Search.{AreAsGood, Ask, GoesOn, HasTurns, IsPath, IsRun, PathState, search_words}
+use Rattle.hp_every.specs.Search.{AreAsGood, Question, GoesOn, HasTurns, IsPath, IsRun, PathState, search_words}
 use Rattle.hp_every.specs.Search.{watch_words}
 use Rattle.hp_every.specs.Turns.{turn_of, turns_of}
 use Rattle.hp_every.proofs.Futures.{same_words}
-use Rattle.hp_every.proofs.Knowing.{Moments2, all_know_more, all_know_on, all_know_too, all_same, as_many, meets_there, moment_twins}
+use Rattle.hp_every.proofs.Knowing.{SameMoment, all_know_more, all_know_on, all_know_too, all_same, as_many, meets_there, moment_twins}
 use Rattle.hp_every.proofs.Paths.{last_same, never_empty}
 use Rattle.hp_every.proofs.Sames.{Same, Split, by_events, by_turns, joined, place_is, same_events, same_then, split, turn_also}
 use Rattle.hp_every.proofs.Sames.{turned_round}
@@ -33,11 +28,11 @@ one_flag true c on back = sym (on refl)
 one_flag false true on back = back refl
 one_flag false false on back = refl
 
-abbrev pub run_of : (a : Ask) (s : PathState) → IsPath a s → HasTurns a s.turns
+abbrev pub run_of : (a : Question) (s : PathState) → IsPath a s → HasTurns a s.turns
 run_of a s h = record { first = h.first; moments = h.moments; last = h.last; run = h.run; made = h.made }
 
 -- watches that know one schedule know each of the same turns
-pub know_by_turns : (a : Ask) (turns : List Turn) (x y : HasTurns a turns) (watches : List Watch) → AllKnow a.conditions watches x.moments
+pub know_by_turns : (a : Question) (turns : List Turn) (x y : HasTurns a turns) (watches : List Watch) → AllKnow a.conditions watches x.moments
     → AllKnow a.conditions watches y.moments
 know_by_turns a turns x y watches know =
     let same = same_events a x.first y.first x.moments y.moments x.last y.last x.run y.run (x.made ∙ sym y.made) in
@@ -45,11 +40,11 @@ know_by_turns a turns x y watches know =
     (all_same a x.first y.first x.moments y.moments x.last y.last x.run y.run same)
     (all_same a y.first x.first y.moments x.moments y.last x.last y.run x.run (sym same)) know
 
-pub same_by_turns : (a : Ask) (turns : List Turn) (x y : HasTurns a turns) → Same x.last y.last
+pub same_by_turns : (a : Question) (turns : List Turn) (x y : HasTurns a turns) → Same x.last y.last
 same_by_turns a turns x y = by_turns a x.first y.first x.moments y.moments x.last y.last x.run y.run (x.made ∙ sym y.made)
 
 -- two of the same place that the same watches have seen
-pub as_good_of : (a : Ask) (s t : PathState) (x : IsPath a s) (y : IsPath a t) (watches : List Watch) → AllKnow a.conditions watches x.moments
+pub as_good_of : (a : Question) (s t : PathState) (x : IsPath a s) (y : IsPath a t) (watches : List Watch) → AllKnow a.conditions watches x.moments
     → AllKnow a.conditions watches y.moments → Same x.last y.last → AreAsGood a s t
 as_good_of a s t x y watches here there same = record {
   here = run_of a s x;
@@ -66,7 +61,7 @@ as_good_of a s t x y watches here there same = record {
 }
 
 -- paths of the same turns are as good
-pub by_path : (a : Ask) (s t : PathState) → IsPath a s → IsPath a t → s.turns ≡ t.turns → AreAsGood a s t
+pub by_path : (a : Question) (s t : PathState) → IsPath a s → IsPath a t → s.turns ≡ t.turns → AreAsGood a s t
 by_path a s t x y e =
     let here : HasTurns a t.turns = subst (HasTurns a) e (run_of a s x) in
     let same = same_events a x.first y.first x.moments y.moments x.last y.last x.run y.run (x.made ∙ (e ∙ sym y.made)) in
@@ -99,7 +94,7 @@ same_watches (v ∷ vs) (w ∷ ws) c s =
     λ i. record { condition = x.0 i; begun = (y.0 i).1; seen = (y.0 i).0 } ∷ rest i
 
 -- so equal words are of the same watches and of one place
-words_tell : (a : Ask) (vs ws : List Watch) (p q : Place) → map (λ (w : Watch). w.condition) vs ≡ a.conditions
+words_tell : (a : Question) (vs ws : List Watch) (p q : Place) → map (λ (w : Watch). w.condition) vs ≡ a.conditions
     → map (λ (w : Watch). w.condition) ws ≡ a.conditions → search_words vs p ≡ search_words ws q → (vs ≡ ws) × (place_words p ≡ place_words q)
 words_tell a vs ws p q c d e =
     let long : length vs ≡ length ws = as_many a.conditions vs c ∙ sym (as_many a.conditions ws d) in
@@ -108,7 +103,7 @@ words_tell a vs ws p q c d e =
     (same_watches vs ws (c ∙ sym d) both.0, both.1)
 
 -- one place is the same place
-alike_one : (a : Ask) (f : CoreState) (ms : List Moment) (p q : Place) → IsRun a f ms p → AreOne p q → Same p q
+alike_one : (a : Question) (f : CoreState) (ms : List Moment) (p q : Place) → IsRun a f ms p → AreOne p q → Same p q
 alike_one a f ms p q run h =
     let itself = by_events a f f ms ms p p run run refl in
     let alike = itself.on.state in
@@ -129,7 +124,7 @@ alike_one a f ms p q run h =
       };
     }
 
-pub by_key : (a : Ask) (s t : PathState) → IsPath a s → IsPath a t → s.key ≡ t.key → AreAsGood a s t
+pub by_key : (a : Question) (s t : PathState) → IsPath a s → IsPath a t → s.key ≡ t.key → AreAsGood a s t
 by_key a s t x y e =
     let both = words_tell a x.watches y.watches x.last y.last x.know.of y.know.of (sym x.key ∙ (e ∙ y.key)) in
     let one = same_words a.script x.last y.last (place_is a x.first x.moments x.last x.run) (place_is a y.first y.moments y.last y.run) both.1 in
@@ -138,7 +133,7 @@ by_key a s t x y e =
 
 -- ---- the same futures
 
-pub onward : (a : Ask) (s t u : PathState) → AreAsGood a s t → AreAsGood a t u → AreAsGood a s u
+pub onward : (a : Question) (s t u : PathState) → AreAsGood a s t → AreAsGood a t u → AreAsGood a s u
 onward a s t u x y =
     let mid = same_by_turns a t.turns x.there y.here in
     let first : Same x.here.last x.there.last = record { on = x.alike; back = x.back } in
@@ -157,7 +152,7 @@ onward a s t u x y =
     }
 
 -- the last turn of a schedule of these turns and one more
-pub record LastTurn (a : Ask) (f : CoreState) (turns : List Turn) (next : Turn) (moments : List Moment) (p : Place) : Type 0 where
+pub record LastTurn (a : Question) (f : CoreState) (turns : List Turn) (next : Turn) (moments : List Moment) (p : Place) : Type 0 where
   pub m : Moment
   pub ms : List Moment
   pub is : moments ≡ m ∷ ms
@@ -165,14 +160,14 @@ pub record LastTurn (a : Ask) (f : CoreState) (turns : List Turn) (next : Turn) 
   pub last : turn_of m.event ≡ next
   pub split : Split a f m ms p
 
-pub last_turn : (a : Ask) (f : CoreState) (turns : List Turn) (next : Turn) (moments : List Moment) (p : Place) → IsRun a f moments p
+pub last_turn : (a : Question) (f : CoreState) (turns : List Turn) (next : Turn) (moments : List Moment) (p : Place) → IsRun a f moments p
     → turns_of moments ≡ turns ++ next ∷ [] → LastTurn a f turns next moments p
 last_turn a f turns next [] p run e = never_empty turns next e
 last_turn a f turns next (m ∷ ms) p run e =
     let last = last_same (turns_of ms) turns (turn_of m.event) next e in
     record { m = m; ms = ms; is = refl; made = last.0; last = last.1; split = split a f m ms p run }
 
-pub follows : (a : Ask) (s t after : PathState) → AreAsGood a s t → GoesOn a s after → (u : PathState) × GoesOn a t u × AreAsGood a after u
+pub follows : (a : Question) (s t after : PathState) → AreAsGood a s t → GoesOn a s after → (u : PathState) × GoesOn a t u × AreAsGood a after u
 follows a s t after x goes = (u, record { next = goes.next; turns = refl; path = path }, as_good_of a after u z path z.watches z.know know same)
   where
     z : IsPath a after
@@ -210,10 +205,10 @@ follows a s t after x goes = (u, record { next = goes.next; turns = refl; path =
     is_other : IsPlaceOf a.script r
     is_other = place_is a x.there.first (n ∷ x.there.moments) r run
 
-    on : Moments2 l.m n
+    on : SameMoment l.m n
     on = record { event = refl; outcome = refl; cores = moment_twins a l.m n z.last r is_place is_other same l.split.core refl }
 
-    back : Moments2 n l.m
+    back : SameMoment n l.m
     back = record {
       event = refl;
       outcome = refl;
@@ -246,7 +241,7 @@ follows a s t after x goes = (u, record { next = goes.next; turns = refl; path =
     }
 
 -- what a search stands on: of the paths that are right, whatever else is known of them
-pub as_good : (a : Ask) (K : Type 0) → IsAsGood (λ s. K × IsPath a s) (GoesOn a) (λ s. s.met ≡ true) (AreAsGood a)
+pub as_good : (a : Question) (K : Type 0) → IsAsGood (λ s. K × IsPath a s) (GoesOn a) (λ s. s.met ≡ true) (AreAsGood a)
 as_good a K = record {
   stays = λ s t valid goes. (valid.0, goes.path);
   itself = λ s valid. by_path a s s valid.1 valid.1 refl;
@@ -254,13 +249,3 @@ as_good a K = record {
   follows = follows a;
   meets_too = λ s t good met. sym good.met ∙ met;
 }
-
--- two lists of numbers that are equal are one
-pub same_list : (xs ys : List ℕ) → pointwise nat_eq xs ys ≡ true → xs ≡ ys
-same_list [] [] e = refl
-same_list [] (y ∷ ys) e = never e
-same_list (x ∷ xs) [] e = never e
-same_list (x ∷ xs) (y ∷ ys) e = (
-    let one = eqb-true x y (first_true (nat_eq x y) (pointwise nat_eq xs ys) e) in
-    let rest = same_list xs ys (second_true (nat_eq x y) (pointwise nat_eq xs ys) e) in
-    λ i. one i ∷ rest i)

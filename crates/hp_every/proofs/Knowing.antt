@@ -25,14 +25,14 @@ use Rattle.hp_hunt.specs.declared.watching.Watch.{Watch}
 use Rattle.hp_key.proofs.Tells.{cons_same}
 use Rattle.hp_every.specs.Places.{IsPlaceOf, outcomes_of}
 use Rattle.hp_every.specs.Schedules.{Ends, IsLookedAt, Place, plan_for}
-use Rattle.hp_every.specs.Search.{Ask, IsRun, MeetsHere}
+use Rattle.hp_every.specs.Search.{Question, IsRun, MeetsHere}
 use Rattle.hp_every.proofs.Paths.{last_same, never_empty, one_place}
 use Rattle.hp_every.proofs.Renamed.{phase_there}
 use Rattle.hp_every.proofs.Sames.{Same, by_events, last_core, looks, may_there, place_is, split, twins_of}
 
 -- ---- moments that tell the same
 
-pub record Moments2 (m n : Moment) : Type 0 where
+pub record SameMoment (m n : Moment) : Type 0 where
   pub event : m.event ≡ n.event
   pub outcome : m.outcome ≡ n.outcome
   pub cores : Twins (as_state m.core) (as_state n.core)
@@ -42,15 +42,15 @@ abbrev pub AreSame : List Moment → List Moment → Type 0
 AreSame [] [] = Unit {0}
 AreSame [] (n ∷ ns) = ⊥
 AreSame (m ∷ ms) [] = ⊥
-AreSame (m ∷ ms) (n ∷ ns) = Moments2 m n × AreSame ms ns
+AreSame (m ∷ ms) (n ∷ ns) = SameMoment m n × AreSame ms ns
 
-pub moment_twins : (a : Ask) (m n : Moment) (p q : Place) → IsPlaceOf a.script p → IsPlaceOf a.script q → Same p q → m.core ≡ p.core
+pub moment_twins : (a : Question) (m n : Moment) (p q : Place) → IsPlaceOf a.script p → IsPlaceOf a.script q → Same p q → m.core ≡ p.core
     → n.core ≡ q.core → Twins (as_state m.core) (as_state n.core)
 moment_twins a m n p q here there same x y =
     subst (λ (s : CoreState). Twins (as_state s) (as_state n.core)) (sym x)
     (subst (λ (s : CoreState). Twins (as_state p.core) (as_state s)) (sym y) (twins_of a.script p q here there same.on))
 
-pub all_same : (a : Ask) (f g : CoreState) (ms ns : List Moment) (p q : Place) → IsRun a f ms p → IsRun a g ns q
+pub all_same : (a : Question) (f g : CoreState) (ms ns : List Moment) (p q : Place) → IsRun a f ms p → IsRun a g ns q
     → events_of ms ≡ events_of ns → AreSame ms ns
 all_same a f g [] [] p q here there e = tt
 all_same a f g [] (n ∷ ns) p q here there e = never_empty (events_of ns) n.event e
@@ -78,7 +78,7 @@ CountsToo (condition.Blocked t) ms ns = Unit {0}
 CountsToo (condition.Meet t p u q) ms ns = Unit {0}
 CountsToo (condition.Final count n) ms ns = Unit {0}
 
-met_there : (c : Condition) (ms ns : List Moment) (m n : Moment) → Moments2 m n → CountsToo c ms ns → IsMetAt c ms m → IsMetAt c ns n
+met_there : (c : Condition) (ms ns : List Moment) (m n : Moment) → SameMoment m n → CountsToo c ms ns → IsMetAt c ms m → IsMetAt c ns n
 unfolding WaitsFor Row
 met_there (condition.Answer t call w) ms ns m n h counts (steps, ends, is) =
     (subst (IsStepOf t) h.event steps, subst (EndsWith w) h.outcome ends, counts is)
@@ -139,7 +139,7 @@ counts_known (condition.Blocked t) begun ms ns a b = tt
 counts_known (condition.Meet t p u q) begun ms ns a b = tt
 counts_known (condition.Final count n) begun ms ns a b = tt
 
-counted_more : (c : Condition) (old begun : ℕ) (ms ns : List Moment) (m n : Moment) → Moments2 m n → IsCounted c old ms → IsCounted c old ns
+counted_more : (c : Condition) (old begun : ℕ) (ms ns : List Moment) (m n : Moment) → SameMoment m n → IsCounted c old ms → IsCounted c old ns
     → IsCounted c begun (m ∷ ms) → IsCounted c begun (n ∷ ns)
 counted_more (condition.Answer t call w) old begun ms ns m n h a b is =
     is ∙ (ap (λ (x : Bool). min (if x then calls_begun t ms + 1 else calls_begun t ms) (call + 1))
@@ -154,7 +154,7 @@ counted_more (condition.Blocked t) old begun ms ns m n h a b is = tt
 counted_more (condition.Meet t p u q) old begun ms ns m n h a b is = tt
 counted_more (condition.Final count k) old begun ms ns m n h a b is = tt
 
-once_more : (w : Watch) (ms ns : List Moment) (m n : Moment) → Moments2 m n → Knows w ms → Knows w ns → Once (IsMetAt w.condition) (m ∷ ms)
+once_more : (w : Watch) (ms ns : List Moment) (m n : Moment) → SameMoment m n → Knows w ms → Knows w ns → Once (IsMetAt w.condition) (m ∷ ms)
     → Once (IsMetAt w.condition) (n ∷ ns)
 unfolding Once
 once_more w ms ns m n h a b (inl here) =
@@ -162,7 +162,7 @@ once_more w ms ns m n h a b (inl here) =
 once_more w ms ns m n h a b (inr before) = inr (b.seen.0 (a.seen.1 before))
 
 -- what one knows behind a moment of the one it knows behind the same moment of the other
-knows_more : (v w : Watch) (ms ns : List Moment) (m n : Moment) → v.condition ≡ w.condition → Moments2 m n → Moments2 n m → Knows w ms
+knows_more : (v w : Watch) (ms ns : List Moment) (m n : Moment) → v.condition ≡ w.condition → SameMoment m n → SameMoment n m → Knows w ms
     → Knows w ns → Knows v (m ∷ ms) → Knows v (n ∷ ns)
 knows_more v w ms ns m n same on back a b h = record {
   counted = subst (λ (c : Condition). IsCounted c v.begun (n ∷ ns)) (sym same)
@@ -176,12 +176,6 @@ knows_more v w ms ns m n same on back a b h = record {
   );
 }
 
--- what is seen of a thing of a list
-at_map : {A B : Type 0} (f : A → B) (xs : List A) (k : ℕ) (d : A) (e : B) → k < length xs → slice_index_or (map f xs) k e ≡ f (slice_index_or xs k d)
-at_map f [] k d e within = absurd (omega (arith, within))
-at_map f (x ∷ xs) zero d e within = refl
-at_map f (x ∷ xs) (suc k) d e within = at_map f xs k d e (omega (arith, within))
-
 pub as_many : (conditions : List Condition) (watches : List Watch) → map (λ (w : Watch). w.condition) watches ≡ conditions
     → length watches ≡ length conditions
 as_many conditions watches of = sym (length-map watches (λ (w : Watch). w.condition)) ∙ ap (λ (cs : List Condition). length cs) of
@@ -190,11 +184,11 @@ same_at : (conditions : List Condition) (vs ws : List Watch) → map (λ (w : Wa
     → map (λ (w : Watch). w.condition) ws ≡ conditions → (k : ℕ) (d : Watch) → k < length vs → k < length ws
     → (slice_index_or vs k d).condition ≡ (slice_index_or ws k d).condition
 same_at conditions vs ws of other k d within long =
-    sym (at_map (λ (w : Watch). w.condition) vs k d d.condition within)
+    sym (get_or-map (λ (w : Watch). w.condition) vs k d d.condition within)
     ∙ (ap (λ (cs : List Condition). slice_index_or cs k d.condition) (of ∙ sym other)
-    ∙ at_map (λ (w : Watch). w.condition) ws k d d.condition long)
+    ∙ get_or-map (λ (w : Watch). w.condition) ws k d d.condition long)
 
-pub all_know_more : (conditions : List Condition) (vs ws : List Watch) (ms ns : List Moment) (m n : Moment) → Moments2 m n → Moments2 n m
+pub all_know_more : (conditions : List Condition) (vs ws : List Watch) (ms ns : List Moment) (m n : Moment) → SameMoment m n → SameMoment n m
     → AllKnow conditions ws ms → AllKnow conditions ws ns → AllKnow conditions vs (m ∷ ms) → AllKnow conditions vs (n ∷ ns)
 all_know_more conditions vs ws ms ns m n on back a b h = record {
   of = h.of;
@@ -269,7 +263,7 @@ looked_too plan p q ends (condition.Meet t phase u other) h = tt
 looked_too plan p q ends (condition.Final count number) h = ends h
 
 -- what meets all conditions meets them in the other's place, too
-pub meets_there : (a : Ask) (f g : CoreState) (ms ns : List Moment) (p q : Place) (watches : List Watch) → IsRun a f ms p → IsRun a g ns q
+pub meets_there : (a : Question) (f g : CoreState) (ms ns : List Moment) (p q : Place) (watches : List Watch) → IsRun a f ms p → IsRun a g ns q
     → Same p q → AllKnow a.conditions watches ms → AllKnow a.conditions watches ns
     → MeetsHere (plan_for a.script) a.conditions f ms p → MeetsHere (plan_for a.script) a.conditions g ns q
 meets_there a f g ms ns p q watches here there same knows too h =
@@ -286,6 +280,6 @@ meets_there a f g ms ns p q watches here there same knows too h =
           let w : Watch = record { condition = d; begun = 0; seen = false } in
           let long : k < length watches = omega (arith, within, as_many a.conditions watches knows.of) in
           let is : (slice_index_or watches k w).condition ≡ slice_index_or a.conditions k d =
-          sym (at_map (λ (v : Watch). v.condition) watches k w d long) ∙ ap (λ (cs : List Condition). slice_index_or cs k d) knows.of in
+          sym (get_or-map (λ (v : Watch). v.condition) watches k w d long) ∙ ap (λ (cs : List Condition). slice_index_or cs k d) knows.of in
           met_too (slice_index_or watches k w) f g ms ns twins (knows.each k w long) (too.each k w long) _ is (h.meets k d within));
     }

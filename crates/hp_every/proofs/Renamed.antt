@@ -44,10 +44,6 @@ map_twice : {A B C : Type 0} (f : A → B) (g : B → C) (o : Option A) → opti
 map_twice f g None = refl
 map_twice f g (Some x) = refl
 
-map_agrees : {A B : Type 0} (f g : A → B) → ((x : A) → f x ≡ g x) → (o : Option A) → option_map f o ≡ option_map g o
-map_agrees f g same None = refl
-map_agrees f g same (Some x) = ap (λ y. Some y) (same x)
-
 touch_twice : (f g : ℕ → ℕ) (p : TouchPhase) → touch_renamed g (touch_renamed f p) ≡ touch_renamed (λ x. g (f x)) p
 touch_twice f g (touch.Taken p) = refl
 touch_twice f g (touch.Settle p) = refl
@@ -118,7 +114,7 @@ unfolding phase_of
 phase_there s n t h =
     ap (λ (x : State). option_map word_of (x.calls t)) h.1
     ∙ (map_twice (call_renamed h.0.to) word_of ((as_state s).calls t)
-    ∙ map_agrees (λ (c : Call). word_of (call_renamed h.0.to c)) word_of (call_word h.0.to) ((as_state s).calls t))
+    ∙ ap (λ (g : Call → List ℕ). option_map g ((as_state s).calls t)) (fun_ext (call_word h.0.to)))
 
 -- a frame has the second name of its first
 chained : {frames : ℕ} → Renaming frames → Renaming frames → Renaming frames
@@ -136,7 +132,7 @@ renamed_twice s r q =
     let pages = fun_ext (λ f. fun_ext (λ i. map_twice r.to q.to (s.pages f i))) in
     let entries = fun_ext (λ t. fun_ext (λ v. map_twice r.to q.to (s.entries t v))) in
     let calls = fun_ext (λ t. map_twice (call_renamed r.to) (call_renamed q.to) (s.calls t)
-    ∙ map_agrees _ _ (call_twice r.to q.to) (s.calls t)) in
+    ∙ ap (λ (g : Call → Call). option_map g (s.calls t)) (fun_ext (call_twice r.to q.to))) in
     λ i. record s {
       pool = record s.pool {
         frame = λ y. s.frame (r.back (q.back y));
@@ -169,7 +165,8 @@ if_first seen other true d x y none same = none
 if_first seen other false d x y none same = same
 
 -- a map with other values
-find_on : (f : ℕ → ℕ) (q : ℕ) (es : List (ℕ × ℕ)) → find nat_cmp q (map (λ (e : ℕ × ℕ). (e.0, f e.1)) es) ≡ option_map f (find nat_cmp q es)
+find_on : (f : ℕ → ℕ) (q : ℕ) (es : List (ℕ × ℕ))
+    → find nat_cmp q (map (λ (e : ℕ × ℕ). (e.0, f e.1)) es) ≡ option_map f (find nat_cmp q es)
 find_on f q [] = refl
 find_on f q (e ∷ es) = by (eq_by_cmp nat_cmp q e.0) _ _ (find_on f q es)
   where

@@ -18,7 +18,7 @@ use Rattle.hp_every.specs.declared.turn.Turn.{Turn}
 use Rattle.hp_every.specs.declared.turn.Turn.TheVariants as turn
 use Rattle.hp_every.specs.Places.{AreAlike, IsPlaceOf}
 use Rattle.hp_every.specs.Schedules.{AnyTurn, Leads, MayTurn, Place, first_place, plan_for, world}
-use Rattle.hp_every.specs.Search.{Ask, IsRun}
+use Rattle.hp_every.specs.Search.{Question, IsRun}
 use Rattle.hp_every.specs.Turns.{task_of, turn_of, turns_of}
 use Rattle.hp_every.proofs.Alike.{alike_turn, twins_look}
 use Rattle.hp_every.proofs.Futures.{place_reached}
@@ -153,30 +153,30 @@ turn_also script p q r event o here there h a =
 
 -- ---- the same turns
 
-pub place_is : (a : Ask) (f : CoreState) (ms : List Moment) (p : Place) → IsRun a f ms p → IsPlaceOf a.script p
+pub place_is : (a : Question) (f : CoreState) (ms : List Moment) (p : Place) → IsRun a f ms p → IsPlaceOf a.script p
 place_is a f ms p run = record { denials = a.denials; kills = a.kills; first = f; moments = ms; schedule = run }
 
 -- a schedule without its last turn
-pub record Split (a : Ask) (f : CoreState) (m : Moment) (ms : List Moment) (p : Place) : Type 0 where
+pub record Split (a : Question) (f : CoreState) (m : Moment) (ms : List Moment) (p : Place) : Type 0 where
   pub before : Place
   pub run : IsRun a f ms before
   pub core : m.core ≡ p.core
   pub last : AnyTurn (plan_for a.script) before m.event m.outcome p
 
-pub split : (a : Ask) (f : CoreState) (m : Moment) (ms : List Moment) (p : Place) → IsRun a f (m ∷ ms) p → Split a f m ms p
+pub split : (a : Question) (f : CoreState) (m : Moment) (ms : List Moment) (p : Place) → IsRun a f (m ∷ ms) p → Split a f m ms p
 unfolding Leads
 split a f m ms p run =
     let l = run.leads in
     record { before = l.0; run = record { opening = run.opening; leads = l.1 }; core = l.2; last = l.3 }
 
 -- and with one more
-pub joined : (a : Ask) (f : CoreState) (m : Moment) (ms : List Moment) (p q : Place) → IsRun a f ms p → m.core ≡ q.core
+pub joined : (a : Question) (f : CoreState) (m : Moment) (ms : List Moment) (p q : Place) → IsRun a f ms p → m.core ≡ q.core
     → AnyTurn (plan_for a.script) p m.event m.outcome q → IsRun a f (m ∷ ms) q
 unfolding Leads
 joined a f m ms p q run core last = record { opening = run.opening; leads = (p, run.leads, core, last) }
 
 -- the same events lead to the same place
-pub by_events : (a : Ask) (f g : CoreState) (ms ns : List Moment) (p q : Place) → IsRun a f ms p → IsRun a g ns q
+pub by_events : (a : Question) (f g : CoreState) (ms ns : List Moment) (p q : Place) → IsRun a f ms p → IsRun a g ns q
     → events_of ms ≡ events_of ns → Same p q
 by_events a f g ms ns p q here there e = record {
   on = (one_place a.script a.denials a.kills f g ms ns p q here there e).1;
@@ -184,7 +184,7 @@ by_events a f g ms ns p q here there e = record {
 }
 
 -- the same turns are the same events
-pub same_events : (a : Ask) (f g : CoreState) (ms ns : List Moment) (p q : Place) → IsRun a f ms p → IsRun a g ns q
+pub same_events : (a : Question) (f g : CoreState) (ms ns : List Moment) (p q : Place) → IsRun a f ms p → IsRun a g ns q
     → turns_of ms ≡ turns_of ns → events_of ms ≡ events_of ns
 same_events a f g [] [] p q here there e = refl
 same_events a f g [] (n ∷ ns) p q here there e = never_empty (turns_of ns) (turn_of n.event) e
@@ -199,10 +199,10 @@ same_events a f g (m ∷ ms) (n ∷ ns) p q here there e =
     let one = same_event (plan_for a.script) x.before y.before look m.event n.event m.outcome n.outcome p q x.last y.last last.1 in
     λ i. before i ++ one i ∷ []
 
-pub by_turns : (a : Ask) (f g : CoreState) (ms ns : List Moment) (p q : Place) → IsRun a f ms p → IsRun a g ns q
+pub by_turns : (a : Question) (f g : CoreState) (ms ns : List Moment) (p q : Place) → IsRun a f ms p → IsRun a g ns q
     → turns_of ms ≡ turns_of ns → Same p q
 by_turns a f g ms ns p q here there e = by_events a f g ms ns p q here there (same_events a f g ms ns p q here there e)
 
 -- the moments lead to the place
-pub last_core : (a : Ask) (f : CoreState) (ms : List Moment) (p : Place) → IsRun a f ms p → last_of f ms ≡ p.core
+pub last_core : (a : Question) (f : CoreState) (ms : List Moment) (p : Place) → IsRun a f ms p → last_of f ms ≡ p.core
 last_core a f ms p run = (history (plan_for a.script) (first_place a.script a.denials a.kills f) ms p run.leads).1

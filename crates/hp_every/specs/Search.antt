@@ -18,18 +18,18 @@ use Rattle.hp_every.specs.Schedules.{IsLookedAt, IsSchedule, MayTurn, Place, pla
 use Rattle.hp_every.specs.Turns.{turns_of}
 
 -- schedules of a script, with so many denials and kills, and what they are to meet
-pub record Ask : Type 0 where
+pub record Question : Type 0 where
   pub script : Script
   pub denials : ℕ
   pub kills : ℕ
   pub conditions : List Condition
 
 -- these moments are those of a schedule that leads there
-abbrev pub IsRun : Ask → (first : CoreState) → List Moment → (last : Place) → Type 0
+abbrev pub IsRun : Question → (first : CoreState) → List Moment → (last : Place) → Type 0
 IsRun a first moments last = IsSchedule a.script a.denials a.kills first moments last
 
 -- these turns are those of a schedule
-pub record HasTurns (a : Ask) (turns : List Turn) : Type 0 where
+pub record HasTurns (a : Question) (turns : List Turn) : Type 0 where
   pub first : CoreState
   pub moments : List Moment
   pub last : Place
@@ -37,7 +37,7 @@ pub record HasTurns (a : Ask) (turns : List Turn) : Type 0 where
   pub made : turns_of moments ≡ turns
 
 -- behind these turns that one may be made
-pub record MayGoOn (a : Ask) (turns : List Turn) (next : Turn) : Type 0 where
+pub record MayGoOn (a : Question) (turns : List Turn) (next : Turn) : Type 0 where
   pub has : HasTurns a turns
   pub may : MayTurn (plan_for a.script) has.last next
 
@@ -68,7 +68,7 @@ abbrev pub search_words : List Watch → Place → List ℕ
 search_words watches p = flat_map watch_words watches ++ place_words p
 
 -- some schedule has these turns, and all that is kept of it is right
-pub record IsPath (a : Ask) (s : PathState) : Type 0 where
+pub record IsPath (a : Question) (s : PathState) : Type 0 where
   pub first : CoreState
   pub moments : List Moment
   pub last : Place
@@ -80,14 +80,14 @@ pub record IsPath (a : Ask) (s : PathState) : Type 0 where
   pub met : s.met ≡ true ↔ MeetsHere (plan_for a.script) a.conditions first moments last
 
 -- the second schedule is the first with one turn more
-pub record GoesOn (a : Ask) (s t : PathState) : Type 0 where
+pub record GoesOn (a : Question) (s t : PathState) : Type 0 where
   pub next : Turn
   pub turns : t.turns ≡ s.turns ++ next ∷ []
   pub path : IsPath a t
 
 -- The two stand in places that differ in the names of frames alone, whatever happened before, and the same watches have seen both. So
 -- both have the same future.
-pub record AreAsGood (a : Ask) (s t : PathState) : Type 0 where
+pub record AreAsGood (a : Question) (s t : PathState) : Type 0 where
   pub here : HasTurns a s.turns
   pub there : HasTurns a t.turns
   pub watches : List Watch
@@ -98,6 +98,6 @@ pub record AreAsGood (a : Ask) (s t : PathState) : Type 0 where
   pub met : s.met ≡ t.met
 
 -- each of the next goes on from the schedule, and each of the turns is the last of one of them
-pub record AreBehind (a : Ask) (s : PathState) (turns : List Turn) (next : List PathState) : Type 0 where
+pub record AreBehind (a : Question) (s : PathState) (turns : List Turn) (next : List PathState) : Type 0 where
   pub some : (t : PathState) → Contains next t → GoesOn a s t
   pub all : (x : Turn) → Contains turns x → (t : PathState) × Contains next t × (t.turns ≡ s.turns ++ x ∷ [])

@@ -1,6 +1,7 @@
 //! All schedules of a script: whatever its tasks may do next, in any order, with so many denied steps and killed tasks.
 //!
-//! It stands on hp_explore and hp_hunt, whose plans and conditions it takes, on hp_key, and on the laws of the machine. It has laws alone.
+//! It stands on hp_explore and hp_hunt, whose plans and conditions it takes, on hp_key, and on the laws of the machine. It has laws, and the
+//! turns of which they speak.
 //! `specs/Schedules.antt` says what a schedule is without any explorer, what it is that none meets conditions, and that one is a shortest
 //! that does. Its laws promise that each run of an explorer is a schedule, and that places with equal words have equal futures. It makes no
 //! search, and knows no stream.

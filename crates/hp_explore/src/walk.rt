@@ -1,6 +1,6 @@
 //! One run, turn by turn. A turn takes about a hundred nanoseconds, so what it calls is inlined: a call that isn't passes
 //! what it answers through memory.
-ghost use Rattle.std.specs.Prelude.{◌≡◌, ◌+◌, ◌-◌, ◌<◌, ◌≤◌, ◌^◌, true, false, [], None, Some, IfOk, IfSome, OnOk};
+ghost use Rattle.std.specs.Prelude.{◌≡◌, ◌+◌, ◌-◌, ◌<◌, ◌≤◌, ◌^◌, true, false, [], None, Some, IfOk, IfSome, OnErr, OnOk};
 ghost use Rattle.std.specs.Prelude.{◌⊎◌, ℕ, IsSome, All, filter, is_some, length, slice_index, slice_set};
 ghost use Rattle.std.specs.List.{list_all};
 ghost use Rattle.hp_machine.specs.State.{is_alive};
@@ -288,13 +288,14 @@ impl Walk {
         Ok(Turned { event, outcome })
     }
 
-    /// Makes an event, which is one of this task alone. It isn't counted as a turn.
+    /// Makes an event, which is one of this task alone. It isn't counted as a turn. Without memory nothing changes.
     #[inline(always)]
-    pub fn play(&mut self, event: &Event, task: u32) -> Result<Outcome, AllocError>
+    pub fn apply(&mut self, event: &Event, task: u32) -> Result<Outcome, AllocError>
         requires task { (1 ≤ task) × (task ≤ length self.old.made) }
         requires alone { (u : ℕ) → IsOf u event.now → u ≡ task }
         ensures row { IfOk result (λ outcome. Row self.old.core event.now outcome self.new.core) }
         ensures stays { OnOk result (self.new ≡ record self.old { core = self.new.core }) }
+        ensures err { OnErr result (self.new ≡ self.old) }
     {
         // The checker of borrows asks for a mention of the type that an outcome may hold.
         let _none: Option<Answer> = None;
@@ -315,7 +316,7 @@ impl Walk {
         ensures made { OnOk result (self.new.made ≡ self.old.made) }
         ensures rng { OnOk result (self.new.rng ≡ self.old.rng) }
     {
-        let outcome = self.play(event, task)?;
+        let outcome = self.apply(event, task)?;
         self.turns += 1;
         Ok(outcome)
     }

@@ -1,6 +1,6 @@
 -- A schedule that was found among all, through a buffer.
 use Rattle.std.proofs.Common.{◌≡◌, ℕ, ◌≤◌, List, Option, Bool, true, length, refl, subst, sym, inr}
-use Rattle.std.specs.Prelude.{IfErr, IfOk, MatchBool, OnOk, Result, Ok, Err}
+use Rattle.std.specs.Prelude.{◌⊎◌, IfErr, IfOk, MatchBool, OnOk, Result, Ok, Err}
 use Rattle.std.specs.Io.KnownBytes.{Appends, Keeps, append_known}
 use Rattle.std.proofs.KnownBytes.{Appends-kept}
 use Rattle.hp_base.specs.Text.{Sizes, sizes}
@@ -9,11 +9,12 @@ use Rattle.hp_command.specs.declared.request.EverySearch.{EverySearch}
 use Rattle.hp_program.proofs.Answers.{HasFront, Passes}
 use Rattle.hp_program.proofs.Buffered.{all_of, holds}
 use Rattle.hp_every.specs.Schedules.{IsShortest, NoScheduleMeets, ScheduleMeets}
-use Rattle.hp_every.specs.Search.{Ask}
+use Rattle.hp_every.specs.Search.{Question}
+use Rattle.hp_layers.specs.declared.limits.Limits.{Limits}
 use Rattle.hp_program.specs.Answers.{NotDone, OfScript}
-use Rattle.hp_search.specs.Searching.{IsAnswer}
-use Rattle.hp_search.specs.declared.answer.Every.{Every}
-use Rattle.hp_search.specs.declared.answer.Every.TheVariants.{Never, Met, Cut}
+use Rattle.hp_search.specs.Searching.{IsAnswer, IsTooMany, IsWithin}
+use Rattle.hp_search.specs.declared.reachability.Reachability.{Reachability}
+use Rattle.hp_search.specs.declared.reachability.Reachability.TheVariants.{Never, Met, Cut}
 use Rattle.hp_script_commands.specs.Searching.{FindsEvery, FindsEveryPartly, IsShortestOf, IsShortestText, MissesEvery}
 use Rattle.hp_text.specs.ScriptLines.{ReadsScript}
 use Rattle.hp_text.specs.Streams.{TellsWrites}
@@ -51,19 +52,24 @@ finds_every_pass s =
     }
 
 -- what is said of all schedules, as it was found
-pub answer_met : (a : Ask) (every : Every) (trace : Trace) → every ≡ Met trace → IsAnswer a every
+pub answer_met : (a : Question) (every : Reachability) (trace : Trace) → every ≡ Met trace → IsAnswer a every
     → IsShortest a.script a.denials a.kills a.conditions trace.events.items × (sizes trace.config ≡ sizes a.script.config)
 unfolding IsAnswer
 answer_met a every trace is h = subst (IsAnswer a) is h
 
-pub answer_never : (a : Ask) (every : Every) → every ≡ Never → IsAnswer a every → NoScheduleMeets a.script a.denials a.kills a.conditions
+pub answer_never : (a : Question) (every : Reachability) → every ≡ Never → IsAnswer a every → NoScheduleMeets a.script a.denials a.kills a.conditions
 unfolding IsAnswer
 answer_never a every is h = subst (IsAnswer a) is h
 
-pub answer_cut : (a : Ask) (every : Every) (turns : ℕ) → every ≡ Cut turns → IsAnswer a every
+pub answer_cut : (a : Question) (every : Reachability) (turns : ℕ) → every ≡ Cut turns → IsAnswer a every
     → (moments : List Moment) → ScheduleMeets a.script a.denials a.kills a.conditions moments → turns ≤ length moments
 unfolding IsAnswer
 answer_cut a every turns is h = subst (IsAnswer a) is h
+
+-- a search that is cut is cut at its limits
+pub within_cut : (a : Question) (limits : Limits) (every : Reachability) (turns : ℕ) → every ≡ Cut turns → IsWithin a limits every
+    → (turns ≡ limits.turns) ⊎ IsTooMany a limits.states turns
+within_cut a limits every turns is h = subst (IsWithin a limits) is h
 
 -- a script was read, and this schedule of it found
 module _ (s : EverySearch) (cut : Option ℕ) (from to before after : Option (List ℕ)) (script : Script) (trace : Trace)

@@ -1,10 +1,12 @@
 -- What comes of `hugepool find --every`.
-use Rattle.std.specs.Prelude.{◌≡◌, ◌≤◌, ℕ, Bool, true, false, List, Option, None, Some, Result, Ok, Err, length}
+use Rattle.std.specs.Prelude.{◌≡◌, ◌≤◌, ◌⊎◌, ℕ, Bool, true, false, List, Option, None, Some, Result, Ok, Err, length}
 use Rattle.std.specs.Io.KnownBytes.{Appends}
 use Rattle.hp_base.specs.Text.{sizes}
 use Rattle.hp_base.specs.declared.event.Event.{Event}
 use Rattle.hp_watch.specs.Moments.{Moment}
 use Rattle.hp_every.specs.Schedules.{IsShortest, NoScheduleMeets, ScheduleMeets}
+use Rattle.hp_every.specs.Search.{Question}
+use Rattle.hp_search.specs.Searching.{IsTooMany}
 use Rattle.hp_program.specs.Answers.{AnsweredHunt, OfScript}
 use Rattle.hp_text.specs.ScriptLines.{HasLinesFault, ReadsScript}
 use Rattle.hp_text.specs.Traces.{trace_text}
@@ -35,11 +37,16 @@ pub record FindsEveryPartly (s : EverySearch) (from to before after : Option (Li
   pub is : IsShortestOf s script events
   pub wrote : Wrote before after (trace_text (sizes script.config) events)
 
--- no schedule meets the conditions, or, where the limits ran out, none of fewer turns than that
+-- what is asked of the script
+abbrev pub asked_of : EverySearch → Script → Question
+asked_of s script = record { script = script; denials = s.denials; kills = s.kills; conditions = s.conditions.items }
+
+-- no schedule meets the conditions, or none of fewer turns than that: a million, or as many as have more places than may be looked at
 abbrev pub NoneOf : EverySearch → (cut : Option ℕ) → Script → Type 0
 NoneOf s None script = NoScheduleMeets script s.denials s.kills s.conditions.items
 NoneOf s (Some turns) script =
-    (moments : List Moment) → ScheduleMeets script s.denials s.kills s.conditions.items moments → turns ≤ length moments
+    ((moments : List Moment) → ScheduleMeets script s.denials s.kills s.conditions.items moments → turns ≤ length moments)
+    × ((turns ≡ 1000000) ⊎ IsTooMany (asked_of s script) s.states turns)
 
 -- a script was read of which this is so
 pub record MissesEvery (s : EverySearch) (cut : Option ℕ) (from to : Option (List ℕ)) : Type 0 where

@@ -15,7 +15,7 @@ use crate::scheduling::tell_ignored;
 use hp_command::EverySearch;
 use hp_layers::Limits;
 use hp_program::{flush_gathered, flushed_answer, gather};
-use hp_search::{Allowed, Every, find_every};
+use hp_search::{Budget, Reachability, find_every};
 use hp_text::{ReplayFault, Sink, Source, Trace, read_any_script, write_trace};
 use std::alloc::Global;
 use std::io::Write;
@@ -67,7 +67,7 @@ fn find_in_all<R: Source, W: Sink>(
     *cut = None;
     let script = read_any_script(alloc, reader)?;
     tell_ignored(&script, faults);
-    let allowed = Allowed {
+    let budget = Budget {
         denials: search.denials,
         kills: search.kills,
     };
@@ -77,12 +77,12 @@ fn find_in_all<R: Source, W: Sink>(
     };
     let conditions = search.conditions.as_slice();
     let mut progress = ProgressLine::new(rt, faults);
-    let every = find_every(alloc, &script, allowed, conditions, limits, &mut progress);
+    let every = find_every(alloc, &script, budget, conditions, limits, &mut progress);
     progress.end();
     match every? {
-        Every::Met(trace) => write_shortest(alloc, &trace, writer),
-        Every::Never => Ok(false),
-        Every::Cut { turns } => {
+        Reachability::Met(trace) => write_shortest(alloc, &trace, writer),
+        Reachability::Never => Ok(false),
+        Reachability::Cut { turns } => {
             *cut = Some(turns);
             Ok(false)
         }

@@ -1,14 +1,16 @@
 -- What is kept of a schedule is right.
 use Rattle.std.proofs.Common.{◌≡◌, ◌∙◌, ℕ, ◌+◌, ◌<◌, refl, ap, sym, subst, inl, inr, arith, List, [], ◌∷◌, ◌++◌, length, take}
-use Rattle.std.specs.Prelude.{◌↔◌, ◌==◌, All, Bool, true, false, Contains, slice_index_or}
-use Rattle.std.proofs.lemmas.List.{get_or_default, take_more}
-use Rattle.std.proofs.lemmas.List.Elements.{Contains-append_left, Contains-push, Contains-push_cases}
+use Rattle.std.specs.Cmp.Lexicographic.{bytes_decides, nat_list_eq_equiv, pointwise}
+use Rattle.std.proofs.lemmas.Map.Views.{list_any-from_Contains}
+use Rattle.std.specs.Prelude.{◌↔◌, ◌⊎◌, ◌==◌, nat_eq, All, Bool, true, false, Contains, slice_index_or}
+use Rattle.std.proofs.lemmas.List.{take_more}
+use Rattle.std.proofs.lemmas.List.Elements.{Contains-append_left, Contains-get_or, Contains-push, Contains-push_cases}
 use Rattle.std.proofs.lemmas.Bool.Decides.{nat_tests}
 use Rattle.hp_base.specs.declared.event.Event.{Event}
 use Rattle.hp_laws.proofs.Deciding.{clash}
 use Rattle.hp_core.specs.State.{CoreState}
 use Rattle.hp_watch.specs.Moments.{Moment, last_of}
-use Rattle.hp_layers.specs.Layers.{IsCutAtLimits, IsRight, IsShortest, NoneBefore, NoneMeets}
+use Rattle.hp_layers.specs.Layers.{AreReached, IsCrowded, IsCutAtLimits, IsRight, IsShortest, NoneBefore, NoneMeets}
 use Rattle.hp_layers.specs.declared.limits.Limits.{Limits}
 use Rattle.hp_layers.specs.declared.verdict.Verdict.{Verdict}
 use Rattle.hp_layers.specs.declared.verdict.Verdict.TheVariants.{Never, Met, Cut}
@@ -19,14 +21,14 @@ use Rattle.hp_hunt.specs.declared.condition.Condition.{Condition}
 use Rattle.hp_hunt.specs.declared.condition.Condition.TheVariants as condition
 use Rattle.hp_every.specs.declared.turn.Turn.{Turn}
 use Rattle.hp_every.specs.Schedules.{Ends, IsLookedAt, MayTurn, Place, plan_for}
-use Rattle.hp_every.specs.Search.{AreBehind, Ask, GoesOn, HasTurns, IsFinal, IsPath, MayGoOn, MeetsHere, PathState, search_words}
+use Rattle.hp_every.specs.Search.{AreBehind, GoesOn, HasTurns, IsFinal, IsPath, MayGoOn, MeetsHere, PathState, Question, search_words}
 use Rattle.hp_every.specs.Turns.{AreAllTurns}
-use Rattle.hp_every.proofs.Answers.{may_at, turn_count}
+use Rattle.hp_every.proofs.Answers.{may_at, reached_path, turn_count}
 use Rattle.hp_every.proofs.Runs.{event_count}
 use Rattle.hp_every.proofs.Meets.{looked_at}
 use Rattle.hp_every.proofs.Sames.{last_core}
 use Rattle.hp_search.specs.declared.position.Position.{Position}
-use Rattle.hp_search.specs.Searching.{IsAt, place_of}
+use Rattle.hp_search.specs.Searching.{AreKeysOf, IsAt, IsTooMany, place_of}
 use Rattle.hp_search.proofs.Made.{has_at}
 
 -- ---- whether it meets all conditions
@@ -58,7 +60,7 @@ ends_met plan conditions first moments p turns empty meets k within final all is
 
 -- ---- paths
 
-pub path_is : (a : Ask) (turns : List Turn) (events : List Event) (p : Position) (key : List ℕ) (met : Bool) → IsAt a turns events p
+pub path_is : (a : Question) (turns : List Turn) (events : List Event) (p : Position) (key : List ℕ) (met : Bool) → IsAt a turns events p
     → key ≡ search_words p.watches.items (place_of p)
     → ((first : CoreState) (moments : List Moment) → p.walk.core ≡ last_of first moments → AllKnow a.conditions p.watches.items moments
     → (met ≡ true ↔ MeetsHere (plan_for a.script) a.conditions first moments (place_of p)))
@@ -75,11 +77,11 @@ path_is a turns events p key met at is meets = record {
   met = meets at.first at.moments (sym (last_core a at.first at.moments (place_of p) at.run)) at.know;
 }
 
-pub behind_may : (a : Ask) (turns : List Turn) (events : List Event) (p : Position) (next : Turn) → MayGoOn a turns next → IsAt a turns events p
+pub behind_may : (a : Question) (turns : List Turn) (events : List Event) (p : Position) (next : Turn) → MayGoOn a turns next → IsAt a turns events p
     → MayTurn (plan_for a.script) (place_of p) next
 behind_may a turns events p next may at = may_at a turns may.has (has_at a turns events p at) next may.may
 
-pub behind_one : (a : Ask) (s next : PathState) (turns : List Turn) (k : ℕ) (d : Turn) (old : List PathState) → k < length turns
+pub behind_one : (a : Question) (s next : PathState) (turns : List Turn) (k : ℕ) (d : Turn) (old : List PathState) → k < length turns
     → AreBehind a s (take k turns) old → IsPath a next → next.turns ≡ s.turns ++ slice_index_or turns k d ∷ []
     → AreBehind a s (take (k + 1) turns) (old ++ next ∷ [])
 behind_one a s next turns k d old within behind path is =
@@ -94,16 +96,12 @@ behind_one a s next turns k d old within behind path is =
       ];
     })
 
--- each of a list is in it
-in_list : {A : Type 0} (xs : List A) (k : ℕ) (d : A) → k < length xs → Contains xs (slice_index_or xs k d)
-in_list xs k d within = (k, within, get_or_default xs k (slice_index_or xs k d) d within)
-
 -- behind the turns each that may be made may be made
-pub goes_on : (a : Ask) (turns : List Turn) (here : HasTurns a turns) (next : List Turn) → AreAllTurns (plan_for a.script) here.last next
+pub goes_on : (a : Question) (turns : List Turn) (here : HasTurns a turns) (next : List Turn) → AreAllTurns (plan_for a.script) here.last next
     → All (MayGoOn a turns) next
 unfolding AreAllTurns
 goes_on a turns here next all k d within =
-    record { has = here; may = (all (slice_index_or next k d)).0 (in_list next k d within) }
+    record { has = here; may = (all (slice_index_or next k d)).0 (Contains-get_or next k d within) }
 
 -- ---- what a search says
 
@@ -127,10 +125,54 @@ pub right_within : {S K : Type 0} (eq : K → K → Bool) (key_of : S → K) (tu
 unfolding IsCutAtLimits
 right_within eq key_of turn limits first s n v is h = subst (IsCutAtLimits eq key_of turn first limits) is h
 
+pub right_cut_at : {S K : Type 0} (eq : K → K → Bool) (key_of : S → K) (turn : S → S → Type 0) (limits : Limits) (first : S) (n : ℕ)
+    (v : Verdict S) → v ≡ Cut n → IsCutAtLimits eq key_of turn first limits v
+    → (n ≡ limits.turns) ⊎ IsCrowded eq key_of turn first limits.states n
+unfolding IsCutAtLimits
+right_cut_at eq key_of turn limits first n v is h = subst (IsCutAtLimits eq key_of turn first limits) is h
+
 -- as many events as turns
-pub within : (a : Ask) (turns : List Turn) (events : List Event) (p : Position) (n most : ℕ) → IsAt a turns events p → length turns ≡ n → n < most
+pub within : (a : Question) (turns : List Turn) (events : List Event) (p : Position) (n most : ℕ) → IsAt a turns events p → length turns ≡ n → n < most
     → length events < most
 within a turns events p n most at long few =
     let told = ap (λ (es : List Event). length es) (sym at.told) ∙ event_count at.moments in
     let made = ap (λ (xs : List Turn). length xs) (sym at.made) ∙ turn_count at.moments in
     omega (arith, told, made, long, few)
+
+-- keys of what is reached are keys of places to which schedules lead
+keys_of : (a : Question) (first : PathState) → IsPath a first → first.turns ≡ [] → (n : ℕ) (keys : List (List ℕ))
+    → AreReached (pointwise nat_eq) (λ (s : PathState). s.key) (GoesOn a) first n keys → AreKeysOf a n keys
+keys_of a first path none n keys h = record {
+  distinct = h.distinct;
+  each = λ key there. (
+      let s = h.each key (list_any-from_Contains nat_list_eq_equiv key keys there) in
+      let at = reached_path a first path none n s.0 s.1 in
+      let p = at.0 in
+      record {
+        first = p.first;
+        moments = p.moments;
+        last = p.last;
+        watches = p.watches;
+        run = p.run;
+        long = sym (turn_count p.moments) ∙ (ap (λ (xs : List Turn). length xs) p.made ∙ at.1);
+        know = p.know;
+        is = sym ((bytes_decides s.0.key key).0 s.2) ∙ p.key;
+      });
+}
+
+-- a search that is cut is cut at its limits
+pub at_limit : (a : Question) (limits : Limits) (first : PathState) → IsPath a first → first.turns ≡ [] → (n : ℕ)
+    → ((n ≡ limits.turns) ⊎ IsCrowded (pointwise nat_eq) (λ (s : PathState). s.key) (GoesOn a) first limits.states n)
+    → (n ≡ limits.turns) ⊎ IsTooMany a limits.states n
+at_limit a limits first path none n cut = elim cut [
+  | inl turns ↦ inl turns
+  | inr crowd ↦ inr (record {
+    before = crowd.before;
+    next = crowd.next;
+    some = crowd.some;
+    others = crowd.others;
+    here = keys_of a first path none crowd.before crowd.some crowd.here;
+    behind = keys_of a first path none n crowd.others crowd.behind;
+    many = crowd.many;
+  })
+]

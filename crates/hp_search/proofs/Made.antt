@@ -17,18 +17,18 @@ use Rattle.hp_hunt.specs.declared.watching.Watch.{Watch}
 use Rattle.hp_every.specs.declared.turn.Turn.{Turn}
 use Rattle.hp_every.specs.declared.turn.Turn.TheVariants as turn
 use Rattle.hp_every.specs.Schedules.{IsTask, Leads, MayTurn, Place, first_place, plan_for}
-use Rattle.hp_every.specs.Search.{Ask, HasTurns}
+use Rattle.hp_every.specs.Search.{Question, HasTurns}
 use Rattle.hp_every.specs.Turns.{AreAllTurns, IsChosen, task_of}
 use Rattle.hp_every.proofs.Answers.{may_at, may_at_place}
 use Rattle.hp_every.proofs.Sames.{joined}
 use Rattle.hp_search.specs.declared.position.Position.{Position}
 use Rattle.hp_search.specs.Searching.{IsAt, IsMade, place_of}
 
-abbrev pub has_at : (a : Ask) (turns : List Turn) (events : List Event) (p : Position) → IsAt a turns events p → HasTurns a turns
+abbrev pub has_at : (a : Question) (turns : List Turn) (events : List Event) (p : Position) → IsAt a turns events p → HasTurns a turns
 has_at a turns events p h = record { first = h.first; moments = h.moments; last = place_of p; run = h.run; made = h.made }
 
 -- one turn more is made
-pub at_more : (a : Ask) (turns : List Turn) (events : List Event) (p q : Position) (next : Turn) (event : Event) → IsAt a turns events p
+pub at_more : (a : Question) (turns : List Turn) (events : List Event) (p q : Position) (next : Turn) (event : Event) → IsAt a turns events p
     → IsMade (plan_for a.script) p next event q → IsAt a (turns ++ next ∷ []) (events ++ event ∷ []) q
 at_more a turns events p q next event h made =
     let m : Moment = record { event = event; outcome = made.outcome; core = q.walk.core } in
@@ -198,7 +198,7 @@ listed_all plan p turns n all up t = (
 -- ---- turns made again
 
 -- none is made
-pub at_first : (a : Ask) (p : Position) → IsOpening a.script.config p.walk.core
+pub at_first : (a : Question) (p : Position) → IsOpening a.script.config p.walk.core
     → place_of p ≡ first_place a.script a.denials a.kills p.walk.core → AllKnow a.conditions p.watches.items [] → IsAt a [] [] p
 unfolding Leads
 at_first a p opens place know = record {
@@ -211,19 +211,19 @@ at_first a p opens place know = record {
 }
 
 -- the next of them may be made
-pub next_may : (a : Ask) (turns : List Turn) (k : ℕ) (events : List Event) (p : Position) (d : Turn) → HasTurns a turns → k < length turns
+pub next_may : (a : Question) (turns : List Turn) (k : ℕ) (events : List Event) (p : Position) (d : Turn) → HasTurns a turns → k < length turns
     → IsAt a (take k turns) events p → MayTurn (plan_for a.script) (place_of p) (slice_index_or turns k d)
 next_may a turns k events p d has within at =
     let next = may_at_place a turns has k d within in
     may_at a (take k turns) next.has (has_at a (take k turns) events p at) (slice_index_or turns k d) next.may
 
-pub next_made : (a : Ask) (turns : List Turn) (k : ℕ) (events : List Event) (p q : Position) (d : Turn) (event : Event) → k < length turns
+pub next_made : (a : Question) (turns : List Turn) (k : ℕ) (events : List Event) (p q : Position) (d : Turn) (event : Event) → k < length turns
     → IsAt a (take k turns) events p → IsMade (plan_for a.script) p (slice_index_or turns k d) event q
     → IsAt a (take (k + 1) turns) (events ++ event ∷ []) q
 next_made a turns k events p q d event within at made =
     subst (λ (xs : List Turn). IsAt a xs (events ++ event ∷ []) q) (sym (take_more turns k d within))
     (at_more a (take k turns) events p q (slice_index_or turns k d) event at made)
 
-pub all_made : (a : Ask) (turns : List Turn) (k : ℕ) (events : List Event) (p : Position) → length turns ≤ k → IsAt a (take k turns) events p
+pub all_made : (a : Question) (turns : List Turn) (k : ℕ) (events : List Event) (p : Position) → length turns ≤ k → IsAt a (take k turns) events p
     → IsAt a turns events p
 all_made a turns k events p all at = subst (λ (xs : List Turn). IsAt a xs events p) (take_all k turns all) at

@@ -1,5 +1,7 @@
 -- A search among all schedules: how it goes, and what it says in the end.
-use Rattle.std.specs.Prelude.{◌≡◌, ◌<◌, ◌≤◌, ℕ, List, ◌∷◌, Some, length}
+use Rattle.std.specs.Cmp.Lexicographic.{pointwise}
+use Rattle.std.specs.List.{IsDistinct}
+use Rattle.std.specs.Prelude.{◌≡◌, ◌+◌, ◌<◌, ◌≤◌, ◌⊎◌, ℕ, List, ◌∷◌, Contains, Some, length, nat_eq}
 use Rattle.hp_base.specs.Mappings.{IsRoom}
 use Rattle.hp_base.specs.Text.{sizes}
 use Rattle.hp_base.specs.declared.event.Event.{Event}
@@ -10,26 +12,34 @@ use Rattle.hp_watch.specs.Moments.{Moment, events_of}
 use Rattle.hp_explore.specs.Schedule.{Plan}
 use Rattle.hp_hunt.specs.Watching.{AllKnow}
 use Rattle.hp_hunt.specs.declared.condition.Condition.{Condition}
+use Rattle.hp_hunt.specs.declared.watching.Watch.{Watch}
+use Rattle.hp_layers.specs.declared.limits.Limits.{Limits}
 use Rattle.hp_every.specs.declared.turn.Turn.{Turn}
 use Rattle.hp_every.specs.Schedules.{AnyTurn, IsShortest, NoScheduleMeets, Place, ScheduleMeets, plan_for}
-use Rattle.hp_every.specs.Search.{Ask, IsRun}
+use Rattle.hp_every.specs.Search.{IsRun, Question, search_words}
 use Rattle.hp_every.specs.Turns.{turn_of, turns_of}
-use Rattle.hp_search.specs.declared.answer.Every.{Every}
-use Rattle.hp_search.specs.declared.answer.Every.TheVariants.{Never, Met, Cut}
+use Rattle.hp_search.specs.declared.reachability.Reachability.{Reachability}
+use Rattle.hp_search.specs.declared.reachability.Reachability.TheVariants.{Never, Met, Cut}
 use Rattle.hp_search.specs.declared.position.Position.{Position}
-use Rattle.hp_search.specs.declared.quest.Quest.{Quest}
+use Rattle.hp_search.specs.declared.query.Query.{Query}
+use Rattle.hp_search.specs.declared.finding.Budget.{Budget}
+use Rattle.hp_text.specs.declared.script.Script.{Script}
 
 -- a mapping of so many pages has room
 abbrev pub HasRoom : Pool → (task len : ℕ) → Type 0
 HasRoom s t len = (base : ℕ) × IsRoom s.geometry.space (s.mappings t) len (Some base)
 
--- what is asked
-abbrev pub ask_of : Quest → Ask
-ask_of q = record { script = q.script.now; denials = q.denials; kills = q.kills; conditions = q.conditions.now }
+-- what the search asks
+abbrev pub question_of : Query → Question
+question_of q = record { script = q.script.now; denials = q.denials; kills = q.kills; conditions = q.conditions.now }
+
+-- what is asked of a script
+abbrev pub question : Script → Budget → List Condition → Question
+question script budget conditions = record { script = script; denials = budget.denials; kills = budget.kills; conditions = conditions }
 
 -- it goes by the script's plan
-abbrev pub IsQuest : Quest → Type 0
-IsQuest q = q.plan.now ≡ plan_for q.script.now
+abbrev pub IsQuery : Query → Type 0
+IsQuery q = q.plan.now ≡ plan_for q.script.now
 
 -- the place in which a run of turns stands
 abbrev pub place_of : Position → Place
@@ -44,7 +54,7 @@ pub record IsMade (plan : Plan) (old : Position) (turn : Turn) (asks : Event) (n
       → AllKnow conditions new.watches.items (record { event = asks; outcome = outcome; core = new.walk.core } ∷ before)
 
 -- these turns were made, by these events, and the watches have seen them
-pub record IsAt (a : Ask) (turns : List Turn) (events : List Event) (p : Position) : Type 0 where
+pub record IsAt (a : Question) (turns : List Turn) (events : List Event) (p : Position) : Type 0 where
   pub first : CoreState
   pub moments : List Moment
   pub run : IsRun a first moments (place_of p)
@@ -52,15 +62,41 @@ pub record IsAt (a : Ask) (turns : List Turn) (events : List Event) (p : Positio
   pub told : events_of moments ≡ events
   pub know : AllKnow a.conditions p.watches.items moments
 
--- a schedule that is found has fewer turns than the limit
-abbrev pub IsWithin : (most : ℕ) → Every → Type 0
-IsWithin most Never = Unit {0}
-IsWithin most (Met trace) = length trace.events.items < most
-IsWithin most (Cut turns) = Unit {0}
+-- the key is that of a place to which a schedule of so many turns leads, and of what was seen on the way
+pub record IsKeyOf (a : Question) (turns : ℕ) (key : List ℕ) : Type 0 where
+  pub first : CoreState
+  pub moments : List Moment
+  pub last : Place
+  pub watches : List Watch
+  pub run : IsRun a first moments last
+  pub long : length moments ≡ turns
+  pub know : AllKnow a.conditions watches moments
+  pub is : key ≡ search_words watches last
+
+-- no two of these keys are equal, and each is one of so many turns
+pub record AreKeysOf (a : Question) (turns : ℕ) (keys : List (List ℕ)) : Type 0 where
+  pub distinct : IsDistinct (pointwise nat_eq) keys
+  pub each : (key : List ℕ) → Contains keys key → IsKeyOf a turns key
+
+-- schedules of so many turns, and of one turn fewer, have more keys than the limit
+pub record IsTooMany (a : Question) (limit turns : ℕ) : Type 0 where
+  pub before : ℕ
+  pub next : turns ≡ before + 1
+  pub some : List (List ℕ)
+  pub others : List (List ℕ)
+  pub here : AreKeysOf a before some
+  pub behind : AreKeysOf a turns others
+  pub many : limit < length some + length others
+
+-- A schedule that is found has fewer turns than the limit. A search is cut at the limit of turns, or where there are too many places.
+abbrev pub IsWithin : Question → Limits → Reachability → Type 0
+IsWithin a limits Never = Unit {0}
+IsWithin a limits (Met trace) = length trace.events.items < limits.turns
+IsWithin a limits (Cut turns) = (turns ≡ limits.turns) ⊎ IsTooMany a limits.states turns
 
 -- What is said of all schedules: that none meets the conditions; or the events of a shortest that does; or that each that does has
 -- at least so many.
-unfoldable pub IsAnswer : Ask → Every → Type 0
+unfoldable pub IsAnswer : Question → Reachability → Type 0
 IsAnswer a Never = NoScheduleMeets a.script a.denials a.kills a.conditions
 IsAnswer a (Met trace) = IsShortest a.script a.denials a.kills a.conditions trace.events.items × (sizes trace.config ≡ sizes a.script.config)
 IsAnswer a (Cut turns) = (moments : List Moment) → ScheduleMeets a.script a.denials a.kills a.conditions moments → turns ≤ length moments

@@ -1,16 +1,17 @@
 //! The shortest schedule that meets conditions, or that there is none.
 ghost use Rattle.std.specs.Prelude.{◌≡◌, true, IfOk};
 ghost use Rattle.std.proofs.Common.{sym};
-ghost use Rattle.hp_every.proofs.Good.{as_good, by_key, same_list};
+ghost use Rattle.std.specs.Cmp.Lexicographic.{bytes_decides};
+ghost use Rattle.hp_every.proofs.Good.{as_good, by_key};
 ghost use Rattle.hp_every.specs.Search.{AreAsGood, GoesOn, IsPath};
-ghost use Rattle.hp_search.specs.Searching.{IsAnswer, IsQuest, IsWithin, ask_of};
+ghost use Rattle.hp_search.specs.Searching.{IsAnswer, IsQuery, IsWithin, question, question_of};
 
-use crate::answer::Every;
+use crate::reachability::Reachability;
 use crate::following::follow;
 use crate::key::Key;
 use crate::path::{Path, path_at, paths_behind};
 use crate::position::Position;
-use crate::quest::Quest;
+use crate::query::Query;
 use hp_base::{Event, Op};
 use hp_explore::{Chances, Plan};
 use hp_hunt::Condition;
@@ -18,29 +19,29 @@ use hp_layers::{Limits, Progress, Turns, Verdict, search};
 use hp_text::{Script, Trace};
 use std::alloc::{AllocError, Global};
 
-impl Turns for Quest<'_> {
+impl Turns for Query<'_> {
     type State = Path;
 
     type Key = Key;
 
-    ghost valid = { λ quest s. IsQuest quest × IsPath (ask_of quest) s };
+    ghost valid = { λ query s. IsQuery query × IsPath (question_of query) s };
 
-    ghost turn = { λ quest s t. GoesOn (ask_of quest) s t };
+    ghost turn = { λ query s t. GoesOn (question_of query) s t };
 
-    ghost meets = { λ quest s. s.met ≡ true };
+    ghost meets = { λ query s. s.met ≡ true };
 
-    ghost alike = { λ quest s t. AreAsGood (ask_of quest) s t };
+    ghost alike = { λ query s t. AreAsGood (question_of query) s t };
 
-    ghost key_of = { λ quest s. s.key };
+    ghost key_of = { λ query s. s.key };
 
     fn after(&self, alloc: Global, path: &Path) -> Result<Vec<Path>, AllocError> {
         // The checker of borrows asks for a mention of the types that an event may hold.
         let _none: (Option<Event>, Option<Op>) = (None, None);
-        let quest = *self;
+        let query = *self;
         let mut events = Vec::with_capacity(alloc, path.turns.len())?;
-        let position = follow(alloc, quest, &path.turns, &mut events)?;
-        let turns = position.next_turns(alloc, quest.plan)?;
-        let next = paths_behind(alloc, quest, path, &turns)?;
+        let position = follow(alloc, query, &path.turns, &mut events)?;
+        let turns = position.next_turns(alloc, query.plan)?;
+        let next = paths_behind(alloc, query, path, &turns)?;
         Ok(next)
     }
 
@@ -52,14 +53,14 @@ impl Turns for Quest<'_> {
         path.met
     }
 
-    ghost as_good = { λ quest. as_good (ask_of quest) (IsQuest quest) };
+    ghost as_good = { λ query. as_good (question_of query) (IsQuery query) };
 
-    ghost same_key = { λ quest s t valid other e. by_key (ask_of quest) s t valid.1 other.1 (sym (same_list t.key s.key e)) };
+    ghost same_key = { λ query s t valid other e. by_key (question_of query) s t valid.1 other.1 (sym ((bytes_decides t.key s.key).0 e)) };
 }
 
 /// So many steps may be denied, and so many tasks killed, in each schedule.
 #[derive(Clone, Copy, Debug, PartialEq, Eq)]
-pub struct Allowed {
+pub struct Budget {
     pub denials: u32,
     pub kills: u32,
 }
@@ -69,39 +70,34 @@ pub struct Allowed {
 pub fn find_every(
     alloc: Global,
     script: &Script,
-    allowed: Allowed,
+    budget: Budget,
     conditions: &[Condition],
     limits: Limits,
     progress: &mut impl Progress,
-) -> Result<Every, AllocError>
-    ensures within { IfOk result (IsWithin limits.turns) }
-    ensures answer { IfOk result (IsAnswer (record {
-      script = script.now;
-      denials = allowed.denials;
-      kills = allowed.kills;
-      conditions = conditions.now;
-    })) }
+) -> Result<Reachability, AllocError>
+    ensures answer { IfOk result (IsAnswer (question script.now budget conditions.now)) }
+    ensures within { IfOk result (IsWithin (question script.now budget conditions.now) limits) }
 {
     let plan = &Plan::new(alloc, script, Chances { deny: 0, kill: 0 })?;
-    let quest = Quest {
+    let query = Query {
         script,
         plan,
         conditions,
-        denials: allowed.denials,
-        kills: allowed.kills,
+        denials: budget.denials,
+        kills: budget.kills,
     };
-    let position = Position::first(alloc, quest)?;
-    let first = path_at(alloc, quest, Vec::new(alloc), &position)?;
-    let verdict = search(alloc, &quest, first, limits, progress)?;
+    let position = Position::first(alloc, query)?;
+    let first = path_at(alloc, query, Vec::new(alloc), &position)?;
+    let verdict = search(alloc, &query, first, limits, progress)?;
     match verdict {
-        Verdict::Never => Ok(Every::Never),
-        Verdict::Cut { turns } => Ok(Every::Cut { turns }),
+        Verdict::Never => Ok(Reachability::Never),
+        Verdict::Cut { turns } => Ok(Reachability::Cut { turns }),
         Verdict::Met { state, .. } => {
             let _none: Option<Op> = None;
             let mut events = Vec::with_capacity(alloc, state.turns.len())?;
-            follow(alloc, quest, &state.turns, &mut events)?;
+            follow(alloc, query, &state.turns, &mut events)?;
             let config = script.config;
-            Ok(Every::Met(Trace { config, events }))
+            Ok(Reachability::Met(Trace { config, events }))
         }
     }
 }

@@ -5,17 +5,17 @@
 //! schedule that it finds is a shortest that does. It keeps the turns of each schedule, and makes them again. It knows no stream.
 #![tactic(auto)]
 
-mod answer;
 mod finding;
 mod following;
 mod growth;
 mod key;
 mod path;
 mod position;
-mod quest;
+mod query;
+mod reachability;
 
-pub use answer::Every;
-pub use finding::{Allowed, find_every};
+pub use finding::{Budget, find_every};
+pub use reachability::Reachability;
 
 #[cfg(test)]
 mod tests;

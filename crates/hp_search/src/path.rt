@@ -6,7 +6,7 @@ ghost use Rattle.hp_hunt.specs.Watching.{AllKnow};
 ghost use Rattle.hp_key.specs.Numbers.{counted, wide};
 ghost use Rattle.hp_watch.specs.Moments.{Moment, last_of};
 ghost use Rattle.hp_every.specs.Search.{AreBehind, IsFinal, IsPath, MayGoOn, MeetsHere, search_words, watch_words};
-ghost use Rattle.hp_search.specs.Searching.{IsAt, IsQuest, ask_of, place_of};
+ghost use Rattle.hp_search.specs.Searching.{IsAt, IsQuery, question_of, place_of};
 ghost use Rattle.hp_hunt.specs.declared.condition.Condition.{Condition};
 ghost use Rattle.hp_every.specs.declared.turn.Turn.{Turn};
 ghost use Rattle.hp_base.specs.declared.event.Event.{Event};
@@ -14,7 +14,7 @@ ghost use Rattle.hp_base.specs.declared.event.Event.{Event};
 use crate::following::follow;
 use crate::key::Key;
 use crate::position::Position;
-use crate::quest::Quest;
+use crate::query::Query;
 use hp_base::{Event, Op};
 use hp_every::Turn;
 use hp_hunt::{Condition, Watch, are_met};
@@ -98,70 +98,70 @@ fn has_final(conditions: &[Condition]) -> bool
 }
 
 /// Whether the schedule meets all conditions in the place where it stands.
-fn is_met(alloc: Global, quest: Quest, position: &Position) -> Result<bool, AllocError>
+fn is_met(alloc: Global, query: Query, position: &Position) -> Result<bool, AllocError>
     ensures { IfOk result (λ met. (first : CoreState) (moments : List Moment) → position.now.walk.core ≡ last_of first moments
-        → AllKnow quest.entry.conditions.now position.now.watches.items moments
-        → (met ≡ true ↔ MeetsHere quest.entry.plan.now quest.entry.conditions.now first moments (place_of position.now))) }
+        → AllKnow query.entry.conditions.now position.now.watches.items moments
+        → (met ≡ true ↔ MeetsHere query.entry.plan.now query.entry.conditions.now first moments (place_of position.now))) }
 {
     if !are_met(position.watches.as_slice(), position.walk.core()) {
         return Ok(false);
     }
-    if !has_final(quest.conditions) {
+    if !has_final(query.conditions) {
         return Ok(true);
     }
-    let turns = position.next_turns(alloc, quest.plan)?;
+    let turns = position.next_turns(alloc, query.plan)?;
     Ok(turns.as_slice().is_empty())
 }
 
 /// The schedule of these turns, which stands there.
 pub(crate) fn path_at(
     alloc: Global,
-    quest: Quest,
+    query: Query,
     turns: Vec<Turn>,
     position: &Position,
 ) -> Result<Path, AllocError>
-    requires planned { IsQuest quest }
-    requires at { (events : List Event) × IsAt (ask_of quest) turns.items events position.now }
-    ensures path { IfOk result (IsPath (ask_of quest.entry)) }
+    requires planned { IsQuery query }
+    requires at { (events : List Event) × IsAt (question_of query) turns.items events position.now }
+    ensures path { IfOk result (IsPath (question_of query.entry)) }
     ensures turns { IfOk result (λ path. path.turns ≡ turns.items) }
 {
     let key = search_key(alloc, position)?;
-    let met = is_met(alloc, quest, position)?;
+    let met = is_met(alloc, query, position)?;
     Ok(Path { turns, key, met })
 }
 
 /// The schedule with one turn more.
-fn path_behind(alloc: Global, quest: Quest, path: &Path, turn: Turn) -> Result<Path, AllocError>
-    requires planned { IsQuest quest }
-    requires may { MayGoOn (ask_of quest) path.now.turns turn }
-    ensures path { IfOk result (IsPath (ask_of quest.entry)) }
+fn path_behind(alloc: Global, query: Query, path: &Path, turn: Turn) -> Result<Path, AllocError>
+    requires planned { IsQuery query }
+    requires may { MayGoOn (question_of query) path.now.turns turn }
+    ensures path { IfOk result (IsPath (question_of query.entry)) }
     ensures turns { IfOk result (λ next. next.turns ≡ path.now.turns ++ turn ∷ []) }
 {
     // The checker of borrows asks for a mention of the type that an event may hold.
     let _none: (Option<Event>, Option<Op>) = (None, None);
     let mut events = Vec::with_capacity(alloc, path.turns.len())?;
-    let mut position = follow(alloc, quest, &path.turns, &mut events)?;
-    position.make(quest.plan, turn)?;
+    let mut position = follow(alloc, query, &path.turns, &mut events)?;
+    position.make(query.plan, turn)?;
     let mut turns = Vec::with_capacity(alloc, path.turns.len().saturating_add(1))?;
     turns.extend_from_slice(&path.turns)?;
     turns.push(turn)?;
-    path_at(alloc, quest, turns, &position)
+    path_at(alloc, query, turns, &position)
 }
 
 /// The schedules with one of these turns more.
 pub(crate) fn paths_behind(
     alloc: Global,
-    quest: Quest,
+    query: Query,
     path: &Path,
     turns: &[Turn],
 ) -> Result<Vec<Path>, AllocError>
-    requires planned { IsQuest quest }
-    requires may { All (MayGoOn (ask_of quest) path.now.turns) turns.now }
-    ensures { IfOk result (λ next. AreBehind (ask_of quest.entry) path.now turns.now next.items) }
+    requires planned { IsQuery query }
+    requires may { All (MayGoOn (question_of query) path.now.turns) turns.now }
+    ensures { IfOk result (λ next. AreBehind (question_of query.entry) path.now turns.now next.items) }
 {
     let mut next = Vec::with_capacity(alloc, turns.len())?;
     for turn in turns {
-        next.push(path_behind(alloc, quest, path, *turn)?)?;
+        next.push(path_behind(alloc, query, path, *turn)?)?;
     }
     Ok(next)
 }

@@ -10,7 +10,7 @@ ghost use Rattle.hp_every.specs.Turns.{AreAllTurns, IsChosen, task_of};
 ghost use Rattle.hp_search.specs.Searching.{IsMade, place_of};
 
 use crate::growth::step_wants;
-use crate::quest::Quest;
+use crate::query::Query;
 use hp_base::{Answer, Event, Op, Task};
 use hp_core::Outcome;
 use hp_every::Turn;
@@ -41,16 +41,16 @@ fn push_if(turns: &mut Vec<Turn>, turn: Turn, may: bool) -> Result<(), AllocErro
 
 impl Position {
     /// Before any turn.
-    pub(crate) fn first(alloc: Global, quest: Quest) -> Result<Position, AllocError>
-        ensures opening { IfOk result (λ p. IsOpening quest.entry.script.now.config p.walk.core) }
-        ensures place { IfOk result (λ p. place_of p ≡ first_place quest.entry.script.now quest.entry.denials quest.entry.kills p.walk.core) }
-        ensures know { IfOk result (λ p. AllKnow quest.entry.conditions.now p.watches.items []) }
+    pub(crate) fn first(alloc: Global, query: Query) -> Result<Position, AllocError>
+        ensures opening { IfOk result (λ p. IsOpening query.entry.script.now.config p.walk.core) }
+        ensures place { IfOk result (λ p. place_of p ≡ first_place query.entry.script.now query.entry.denials query.entry.kills p.walk.core) }
+        ensures know { IfOk result (λ p. AllKnow query.entry.conditions.now p.watches.items []) }
     {
         Ok(Position {
-            walk: Walk::new(alloc, quest.script, 0)?,
-            watches: watch_all(alloc, quest.conditions)?,
-            denials: quest.denials,
-            kills: quest.kills,
+            walk: Walk::new(alloc, query.script, 0)?,
+            watches: watch_all(alloc, query.conditions)?,
+            denials: query.denials,
+            kills: query.kills,
         })
     }
 
@@ -99,7 +99,7 @@ impl Position {
         // The checker of borrows asks for a mention of the types that a turn may hold.
         let _none: (Option<Op>, Option<Outcome>, Option<Answer>) = (None, None, None);
         let event = self.choose(plan, turn);
-        let outcome = self.walk.play(&event, turn.task())?;
+        let outcome = self.walk.apply(&event, turn.task())?;
         see_all(&mut self.watches, &event, &outcome, self.walk.core());
         Ok(event)
     }

@@ -1,6 +1,6 @@
 //! Two tasks that each map a page, in a pool that has one. By the phases of a map, one that is mapped has 8 events with its begin, one that
 //! finds no frame 7, and one that is denied its descriptor 4.
-use crate::{Allowed, Every, find_every};
+use crate::{Budget, Reachability, find_every};
 use hp_base::Task;
 use hp_hunt::{AnswerWord, Condition};
 use hp_layers::{Limits, Progress};
@@ -37,7 +37,7 @@ fn both(one: AnswerWord, other: AnswerWord) -> [Condition; 2] {
 fn said(
     alloc: Global,
     conditions: &[Condition],
-    allowed: Allowed,
+    budget: Budget,
     states: usize,
 ) -> Result<usize, ReplayFault> {
     let script = read_any_script(alloc, &mut MAPS.as_bytes())?;
@@ -46,14 +46,14 @@ fn said(
         states,
     };
     let mut told = Told { layers: 0 };
-    match find_every(alloc, &script, allowed, conditions, limits, &mut told)? {
-        Every::Met(trace) => Ok(trace.events.len()),
-        Every::Never => Ok(1000),
-        Every::Cut { .. } => Ok(2000),
+    match find_every(alloc, &script, budget, conditions, limits, &mut told)? {
+        Reachability::Met(trace) => Ok(trace.events.len()),
+        Reachability::Never => Ok(1000),
+        Reachability::Cut { .. } => Ok(2000),
     }
 }
 
-const NOTHING: Allowed = Allowed {
+const NOTHING: Budget = Budget {
     denials: 0,
     kills: 0,
 };
@@ -78,11 +78,11 @@ fn a_denial_is_made_where_one_is_allowed(rt: HostRuntime) -> Result<(), Fail> {
     let denied = both(AnswerWord::Mapped, AnswerWord::NoMemory);
     let never = said(rt.alloc(), &denied, NOTHING, 1000);
     assert!(rt; matches!(never, Ok(1000)));
-    let allowed = Allowed {
+    let budget = Budget {
         denials: 1,
         kills: 0,
     };
-    let met = said(rt.alloc(), &denied, allowed, 1000);
+    let met = said(rt.alloc(), &denied, budget, 1000);
     assert!(rt; matches!(met, Ok(12)));
     Ok(())
 }

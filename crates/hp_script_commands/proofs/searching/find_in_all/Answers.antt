@@ -1,15 +1,18 @@
 use Rattle.std.proofs.Common.{◌≡◌, ℕ, ◌≤◌, List, length, subst}
 use Rattle.std.proofs.KnownBytes.{Keeps-refl}
 use Rattle.hp_every.specs.Schedules.{IsShortest, NoScheduleMeets, ScheduleMeets}
-use Rattle.hp_every.specs.Search.{Ask}
+use Rattle.hp_every.specs.Search.{Question}
+use Rattle.hp_layers.specs.declared.limits.Limits.{Limits}
+use Rattle.hp_search.specs.Searching.{IsTooMany}
+use Rattle.std.specs.Prelude.{◌⊎◌}
 use Rattle.hp_hunt.specs.declared.condition.Condition.{Condition}
-use Rattle.hp_script_commands.proofs.Searched.{answer_cut, answer_met, answer_never, finds_every, finds_every_short}
+use Rattle.hp_script_commands.proofs.Searched.{answer_cut, answer_met, answer_never, finds_every, finds_every_short, within_cut}
 use Rattle.hp_watch.specs.Moments.{Moment}
 use Rattle.hp_script_commands.proofs.searching.find_in_all.Goals as goal
 
 pub returns-in-Met-clause-ok : goal.returns-in-Met-clause-ok
 returns-in-Met-clause-ok g c =
-    let a : Ask = record {
+    let a : Question = record {
       script = c.in_ok-script.script;
       denials = c.args.search.now.denials;
       kills = c.args.search.now.kills;
@@ -23,7 +26,7 @@ returns-in-Met-clause-ok g c =
 
 pub returns-in-Met-clause-err : goal.returns-in-Met-clause-err
 returns-in-Met-clause-err g c =
-    let a : Ask = record {
+    let a : Question = record {
       script = c.in_ok-script.script;
       denials = c.args.search.now.denials;
       kills = c.args.search.now.kills;
@@ -37,7 +40,7 @@ returns-in-Met-clause-err g c =
 
 pub returns-in-Never-clause-ok : goal.returns-in-Never-clause-ok
 returns-in-Never-clause-ok g c =
-    let a : Ask = record {
+    let a : Question = record {
       script = c.in_ok-script.script;
       denials = c.args.search.now.denials;
       kills = c.args.search.now.kills;
@@ -54,18 +57,22 @@ returns-in-Never-clause-ok g c =
 
 pub returns-clause-ok : goal.returns-clause-ok
 returns-clause-ok g c =
-    let a : Ask = record {
+    let a : Question = record {
       script = c.in_ok-script.script;
       denials = c.args.search.now.denials;
       kills = c.args.search.now.kills;
       conditions = c.as_slice-conditions.result.now;
-    } in (
+    } in
+    let turns = c.in-Cut.turns in
+    let every = c.in_ok-trace.field-0 in
+    let limits : Limits = record { turns = 1000000; states = c.args.search.now.states } in
+    let none = answer_cut a every turns c.in-Cut.is c.in_ok-trace.ensures.answer in
+    let at = within_cut a limits every turns c.in-Cut.is c.in_ok-trace.ensures.within in (
       record {
         script = a.script;
         reads = c.in_ok-script.ensures.ok;
-        none = subst (λ (cs : List Condition). (moments : List Moment) → ScheduleMeets a.script a.denials a.kills cs moments
-            → c.in-Cut.turns ≤ length moments) c.as_slice-conditions.ensures.value
-            (answer_cut a c.in_ok-trace.field-0 c.in-Cut.turns c.in-Cut.is c.in_ok-trace.ensures.answer);
+        none = subst (λ (cs : List Condition). ((moments : List Moment) → ScheduleMeets a.script a.denials a.kills cs moments → turns ≤ length moments)
+            × ((turns ≡ 1000000) ⊎ IsTooMany (record a { conditions = cs }) limits.states turns)) c.as_slice-conditions.ensures.value (none, at);
       },
       Keeps-refl _,
     )

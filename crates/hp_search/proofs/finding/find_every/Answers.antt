@@ -1,22 +1,17 @@
 use Rattle.std.proofs.Common.{◌≡◌, ◌∙◌, [], List, ap, refl, subst, sym}
 use Rattle.std.specs.Prelude.{true}
 use Rattle.hp_every.specs.declared.turn.Turn.{Turn}
-use Rattle.hp_every.specs.Search.{Ask, GoesOn, HasTurns, PathState}
+use Rattle.hp_every.specs.Search.{GoesOn, HasTurns, PathState}
 use Rattle.hp_every.proofs.Answers.{cut_means, met_means, never_means, reached_path}
 use Rattle.hp_every.proofs.Good.{run_of}
-use Rattle.hp_search.specs.Searching.{IsAnswer, IsAt}
-use Rattle.hp_search.proofs.Kept.{right_cut, right_met, right_never, right_within, within}
+use Rattle.hp_search.specs.Searching.{IsAnswer, IsAt, question}
+use Rattle.hp_search.proofs.Kept.{at_limit, right_cut, right_cut_at, right_met, right_never, right_within, within}
 use Rattle.hp_search.proofs.Made.{at_first, has_at}
 use Rattle.hp_search.proofs.finding.find_every.Goals as goal
 
 pub path_at-requires-clause-at : goal.path_at-requires-clause-at
 path_at-requires-clause-at c c' =
-    let a : Ask = record {
-      script = c'.args.script.now;
-      denials = c'.args.allowed.denials;
-      kills = c'.args.allowed.kills;
-      conditions = c'.args.conditions.now;
-    } in (
+    let a = question c'.args.script.now c'.args.budget c'.args.conditions.now in (
       [],
       subst (λ (turns : List Turn). IsAt a turns [] c'.in_ok-position.position) (sym c'.new-2.ensures.items)
           (at_first a c'.in_ok-position.position c'.in_ok-position.ensures.opening c'.in_ok-position.ensures.place c'.in_ok-position.ensures.know),
@@ -25,12 +20,7 @@ path_at-requires-clause-at c c' =
 pub returns-in-Never-clause-answer : goal.returns-in-Never-clause-answer
 unfolding IsAnswer
 returns-in-Never-clause-answer c c' =
-    let a : Ask = record {
-      script = c'.args.script.now;
-      denials = c'.args.allowed.denials;
-      kills = c'.args.allowed.kills;
-      conditions = c'.args.conditions.now;
-    } in
+    let a = question c'.args.script.now c'.args.budget c'.args.conditions.now in
     let first = c'.in_ok-first.first in
     let none = c'.in_ok-first.ensures.turns ∙ c'.new-2.ensures.items in
     never_means a first c'.in_ok-first.ensures.path none
@@ -39,25 +29,23 @@ returns-in-Never-clause-answer c c' =
 pub returns-in-Cut-clause-answer : goal.returns-in-Cut-clause-answer
 unfolding IsAnswer
 returns-in-Cut-clause-answer c c' =
-    let a : Ask = record {
-      script = c'.args.script.now;
-      denials = c'.args.allowed.denials;
-      kills = c'.args.allowed.kills;
-      conditions = c'.args.conditions.now;
-    } in
+    let a = question c'.args.script.now c'.args.budget c'.args.conditions.now in
     let first = c'.in_ok-first.first in
     let none = c'.in_ok-first.ensures.turns ∙ c'.new-2.ensures.items in
     cut_means a first c'.in_ok-first.ensures.path none c'.in-Cut.turns
     (right_cut (GoesOn a) (λ s. s.met ≡ true) first c'.in-Cut.turns c'.in_ok-verdict.verdict c'.in-Cut.is c'.in_ok-verdict.ensures.right)
 
+pub returns-in-Cut-clause-within : goal.returns-in-Cut-clause-within
+returns-in-Cut-clause-within c c' =
+    let a = question c'.args.script.now c'.args.budget c'.args.conditions.now in
+    let first = c'.in_ok-first.first in
+    let none = c'.in_ok-first.ensures.turns ∙ c'.new-2.ensures.items in
+    at_limit a c'.args.limits first c'.in_ok-first.ensures.path none c'.in-Cut.turns
+    (right_cut_at _ _ (GoesOn a) c'.args.limits first c'.in-Cut.turns c'.in_ok-verdict.verdict c'.in-Cut.is c'.in_ok-verdict.ensures.cut)
+
 pub follow-requires-clause-may : goal.follow-requires-clause-may
 follow-requires-clause-may c c' =
-    let a : Ask = record {
-      script = c'.args.script.now;
-      denials = c'.args.allowed.denials;
-      kills = c'.args.allowed.kills;
-      conditions = c'.args.conditions.now;
-    } in
+    let a = question c'.args.script.now c'.args.budget c'.args.conditions.now in
     let first = c'.in_ok-first.first in
     let none = c'.in_ok-first.ensures.turns ∙ c'.new-2.ensures.items in
     let shortest = right_met (GoesOn a) (λ s. s.met ≡ true) first c'.in-Met.state c'.in-Met.turns c'.in_ok-verdict.verdict c'.in-Met.is
@@ -69,12 +57,7 @@ follow-requires-clause-may c c' =
 pub returns-clause-answer : goal.returns-clause-answer
 unfolding IsAnswer
 returns-clause-answer c c' =
-    let a : Ask = record {
-      script = c'.args.script.now;
-      denials = c'.args.allowed.denials;
-      kills = c'.args.allowed.kills;
-      conditions = c'.args.conditions.now;
-    } in
+    let a = question c'.args.script.now c'.args.budget c'.args.conditions.now in
     let first = c'.in_ok-first.first in
     let none = c'.in_ok-first.ensures.turns ∙ c'.new-2.ensures.items in
     let s = c'.in-Met.state in
@@ -88,12 +71,7 @@ returns-clause-answer c c' =
 
 pub returns-clause-within : goal.returns-clause-within
 returns-clause-within c c' =
-    let a : Ask = record {
-      script = c'.args.script.now;
-      denials = c'.args.allowed.denials;
-      kills = c'.args.allowed.kills;
-      conditions = c'.args.conditions.now;
-    } in
+    let a = question c'.args.script.now c'.args.budget c'.args.conditions.now in
     let first = c'.in_ok-first.first in
     let none = c'.in_ok-first.ensures.turns ∙ c'.new-2.ensures.items in
     let s = c'.in-Met.state in

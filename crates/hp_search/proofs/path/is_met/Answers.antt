@@ -9,9 +9,9 @@ use Rattle.hp_search.proofs.path.is_met.Goals as goal
 
 pub returns : goal.returns
 returns c = λ first moments core know. (
-    let conditions = c.args.quest.conditions.now in
+    let conditions = c.args.query.conditions.now in
     let some = c.if-not-has_final.ensures.some refl in
-    ends_met c.args.quest.plan.now conditions first moments (place_of c.args.position.now) c.in_ok-turns.turns.items c.is_empty.result
+    ends_met c.args.query.plan.now conditions first moments (place_of c.args.position.now) c.in_ok-turns.turns.items c.is_empty.result
     (c.if-not-are_met.ensures.met refl conditions first moments (c.core.ensures.core ∙ core)
     (subst (λ (ws : List Watch). AllKnow conditions ws moments) (sym c.as_slice.ensures.value) know))
     some.0 some.1 some.2 c.in_ok-turns.ensures

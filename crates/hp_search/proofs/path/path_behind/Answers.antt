@@ -3,14 +3,14 @@ use Rattle.hp_explore.specs.Schedule.{Plan}
 use Rattle.hp_every.specs.declared.turn.Turn.{Turn}
 use Rattle.hp_every.specs.Schedules.{MayTurn}
 use Rattle.hp_every.specs.Search.{PathState}
-use Rattle.hp_search.specs.Searching.{IsAt, IsMade, ask_of, place_of}
+use Rattle.hp_search.specs.Searching.{IsAt, IsMade, question_of, place_of}
 use Rattle.hp_search.proofs.Kept.{behind_may}
 use Rattle.hp_search.proofs.Made.{at_more}
 use Rattle.hp_search.proofs.path.path_behind.Goals as goal
 
 pub make-requires : goal.make-requires
 make-requires c =
-    let a = ask_of c.args.quest in
+    let a = question_of c.args.query in
     let events = c.follow.new.events.items in
     let here : c.deref.result.now ≡ c.args.path.now.turns = c.deref.ensures.value ∙ ap (λ (s : PathState). s.turns) c.path.view_is in
     let at = subst (λ (xs : List Turn). IsAt a xs events c.in_ok-position.position) here c.in_ok-position.ensures in
@@ -19,7 +19,7 @@ make-requires c =
 
 pub path_at-requires-clause-at : goal.path_at-requires-clause-at
 path_at-requires-clause-at c =
-    let a = ask_of c.args.quest in
+    let a = question_of c.args.query in
     let events = c.follow.new.events.items in
     let turn = c.args.turn in
     let made = subst (λ (plan : Plan). IsMade plan c.in_ok-position.position turn c.in_ok-make.field-0 c.make.new.self) c.requires.planned

@@ -1,8 +1,8 @@
 -- so many of the turns were made
 use Rattle.std.proofs.Common.{take}
 use Rattle.hp_every.specs.Search.{AreBehind}
-use Rattle.hp_search.specs.Searching.{ask_of}
+use Rattle.hp_search.specs.Searching.{question_of}
 use Rattle.hp_search.proofs.path.paths_behind.Given as goal
 
 abbrev pub invariant-loop-turn : goal.invariant-loop-turn
-invariant-loop-turn l = AreBehind (ask_of l.quest) l.path (take l.turn-index l.turns) l.next.items
+invariant-loop-turn l = AreBehind (question_of l.query) l.path (take l.turn-index l.turns) l.next.items

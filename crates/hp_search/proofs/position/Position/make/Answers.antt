@@ -7,7 +7,7 @@ use Rattle.hp_search.proofs.position.Position.make.Goals as goal
 pub returns : goal.returns
 returns c =
     made_of c.args.plan.now c.args.self.now c.choose-event.new.self c.args.turn c.choose-event.result c.in_ok-outcome.outcome
-    c.play.new.self c.see_all.new.watches c.choose-event.ensures.chosen c.choose-event.ensures.core c.choose-event.ensures.watches
+    c.apply.new.self c.see_all.new.watches c.choose-event.ensures.chosen c.choose-event.ensures.core c.choose-event.ensures.watches
     c.in_ok-outcome.ensures.row c.in_ok-outcome.ensures.stays
     (λ conditions before know. subst (λ (s : CoreState). AllKnow conditions c.see_all.new.watches.items
     (record { event = c.choose-event.result; outcome = c.in_ok-outcome.outcome; core = s } ∷ before)) c.core.ensures.core

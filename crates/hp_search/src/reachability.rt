@@ -3,7 +3,7 @@ use hp_text::Trace;
 
 /// What is said of all schedules.
 #[derive(Debug, Drop)]
-pub enum Every {
+pub enum Reachability {
     /// No schedule meets the conditions.
     Never,
     /// A schedule that meets them in the fewest turns.

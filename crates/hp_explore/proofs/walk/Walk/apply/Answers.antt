@@ -4,7 +4,7 @@ use Rattle.std.proofs.lemmas.List.{length-set}
 use Rattle.hp_base.specs.Text.{Sizes}
 use Rattle.hp_core.specs.Readers.{phase_of}
 use Rattle.hp_watch.proofs.Phases.{outcome_agrees, phases_after}
-use Rattle.hp_explore.proofs.walk.Walk.play.Goals as goal
+use Rattle.hp_explore.proofs.walk.Walk.apply.Goals as goal
 
 pub phase_after-requires-clause-agrees : goal.phase_after-requires-clause-agrees
 phase_after-requires-clause-agrees c =

@@ -5,7 +5,7 @@ use hp_text::Script;
 
 /// Schedules of a script, and what they are to meet.
 #[derive(Clone, Copy, Drop)]
-pub(crate) struct Quest<'a> {
+pub(crate) struct Query<'a> {
     pub(crate) script: &'a Script,
     /// What each task calls, and what its calls wait for.
     pub(crate) plan: &'a Plan,

@@ -5,14 +5,14 @@ use Rattle.std.specs.Prelude.{All}
 use Rattle.hp_every.specs.Search.{AreBehind, MayGoOn, PathState}
 use Rattle.hp_every.specs.Turns.{AreAllTurns}
 use Rattle.hp_every.proofs.Answers.{all_after}
-use Rattle.hp_search.specs.Searching.{IsAt, ask_of, place_of}
+use Rattle.hp_search.specs.Searching.{IsAt, question_of, place_of}
 use Rattle.hp_search.proofs.Kept.{goes_on}
 use Rattle.hp_search.proofs.Made.{has_at}
-use Rattle.hp_search.proofs.finding.QuestTurns.after.Goals as goal
+use Rattle.hp_search.proofs.finding.QueryTurns.after.Goals as goal
 
 pub paths_behind-requires-clause-may : goal.paths_behind-requires-clause-may
 paths_behind-requires-clause-may c =
-    let a = ask_of c.args.self.now in
+    let a = question_of c.args.self.now in
     let here : c.deref.result.now ≡ c.args.path.now.turns = c.deref.ensures.value ∙ ap (λ (s : PathState). s.turns) c.path.view_is in
     let at = subst (λ (xs : List Turn). IsAt a xs c.follow.new.events.items c.in_ok-position.position) here c.in_ok-position.ensures in
     let turns = c.args.path.now.turns in
@@ -23,7 +23,7 @@ paths_behind-requires-clause-may c =
 
 pub returns : goal.returns
 returns c =
-    let a = ask_of c.args.self.now in
+    let a = question_of c.args.self.now in
     let here : c.deref.result.now ≡ c.args.path.now.turns = c.deref.ensures.value ∙ ap (λ (s : PathState). s.turns) c.path.view_is in
     let at = subst (λ (xs : List Turn). IsAt a xs c.follow.new.events.items c.in_ok-position.position) here c.in_ok-position.ensures in
     let turns = c.args.path.now.turns in
