@@ -1,7 +1,7 @@
 -- What watches know of one schedule they know of another that stands in the same place.
 use Rattle.std.proofs.Common.{◌≡◌, ℕ, zero, suc, ◌+◌, ◌<◌, refl, ap, sym, ◌∙◌, subst, inl, inr, arith, List, [], ◌∷◌, length}
 use Rattle.std.specs.Prelude.{◌&&◌, Bool, true, false, map, min, slice_index_or, if◌then◌else◌}
-use Rattle.std.proofs.lemmas.List.{length-map}
+use Rattle.std.proofs.lemmas.List.{get_or-map, length-map}
 use Rattle.std.proofs.Math.Path.{fun_ext}
 use Rattle.hp_base.specs.Indices.{count_below}
 use Rattle.hp_machine.specs.Headline.{all_calls}

@@ -18,6 +18,7 @@ use Rattle.hp_region.specs.Regions.{is_member}
 use Rattle.hp_table.specs.Table.{Table}
 use Rattle.hp_machine.specs.State.{State}
 use Rattle.hp_machine.specs.Events.{word_of}
+use Rattle.hp_machine.specs.declared.phase.Phase.{Phase}
 use Rattle.hp_machine.specs.declared.touch.TouchPhase.{TouchPhase}
 use Rattle.hp_machine.specs.declared.touch.TouchPhase.TheVariants as touch
 use Rattle.hp_machine.specs.declared.alloc.AllocPhase.{AllocPhase}
@@ -114,7 +115,7 @@ unfolding phase_of
 phase_there s n t h =
     ap (λ (x : State). option_map word_of (x.calls t)) h.1
     ∙ (map_twice (call_renamed h.0.to) word_of ((as_state s).calls t)
-    ∙ ap (λ (g : Call → List ℕ). option_map g ((as_state s).calls t)) (fun_ext (call_word h.0.to)))
+    ∙ ap (λ (g : Call → Phase). option_map g ((as_state s).calls t)) (fun_ext (call_word h.0.to)))
 
 -- a frame has the second name of its first
 chained : {frames : ℕ} → Renaming frames → Renaming frames → Renaming frames
