@@ -7,7 +7,7 @@ use Rattle.std.proofs.lemmas.List.Elements.{All-append}
 use Rattle.std.proofs.Math.Seq.{map-set_same}
 use Rattle.hp_base.proofs.Puts.{same_or_other}
 use Rattle.hp_summary.specs.Summaries.{AreEndings, EndsSo, IsCount, IsEndingOf, IsFirstSo, IsOther, firsts_of, kept_of}
-use Rattle.hp_summary.specs.declared.facts.Ended.{Ended}
+use Rattle.hp_watch.specs.declared.calls.EndedCall.{EndedCall}
 use Rattle.hp_summary.specs.declared.facts.RunFacts.{RunFacts}
 use Rattle.hp_summary.specs.declared.tally.Ending.{Ending}
 
@@ -83,7 +83,7 @@ at_front : (facts : List RunFacts) (x : RunFacts) (k : ℕ) (d : RunFacts) → k
     → slice_index_or (facts ++ x ∷ []) k d ≡ slice_index_or facts k d
 at_front facts x k d lt = get_or_append_left facts (x ∷ []) d k lt
 
-first_stays : (facts : List RunFacts) (x : RunFacts) (ended : List Ended) (run : ℕ) → IsFirstSo facts ended run
+first_stays : (facts : List RunFacts) (x : RunFacts) (ended : List EndedCall) (run : ℕ) → IsFirstSo facts ended run
     → IsFirstSo (facts ++ x ∷ []) ended run
 first_stays facts x ended run h =
     record {
@@ -94,7 +94,7 @@ first_stays facts x ended run h =
     }
 
 -- a way of ending has one first run
-one_first : (facts : List RunFacts) (ended : List Ended) (j k : ℕ) → IsFirstSo facts ended j → IsFirstSo facts ended k → (j < k → ⊥)
+one_first : (facts : List RunFacts) (ended : List EndedCall) (j k : ℕ) → IsFirstSo facts ended j → IsFirstSo facts ended k → (j < k → ⊥)
 one_first facts ended j k a b lt = b.before j (nowhere facts j a.there) lt (a.so (nowhere facts j a.there))
   where
     nowhere : (xs : List RunFacts) (j : ℕ) → j < length xs → RunFacts
@@ -104,7 +104,7 @@ one_first facts ended j k a b lt = b.before j (nowhere facts j a.there) lt (a.so
 no_less : (j k : ℕ) → (j ≡ k) ⊎ ((j < k) ⊎ (k < j))
 no_less j k = grind arith
 
-pub record IsFoundAt (endings : List Ending) (ended : List Ended) (place : ℕ) : Type 0 where
+pub record IsFoundAt (endings : List Ending) (ended : List EndedCall) (place : ℕ) : Type 0 where
   pub there : place < length endings
   pub same : (d : Ending) → (slice_index_or endings place d).ended.items ≡ ended
 
@@ -120,7 +120,7 @@ module _ (facts : List RunFacts) (x : RunFacts) (endings : List Ending) (other :
       let e = slice_index_or endings k d in
       let f = slice_index_or endings place d in
       let one = (h.each k d lt).first in
-      let two = subst (λ (xs : List Ended). IsFirstSo facts xs f.first) (at.same d ∙ sym so) (h.each place d at.there).first in
+      let two = subst (λ (xs : List EndedCall). IsFirstSo facts xs f.first) (at.same d ∙ sym so) (h.each place d at.there).first in
       elim (no_less k place) [
         | inl same ↦ not same
         | inr less ↦ elim less [

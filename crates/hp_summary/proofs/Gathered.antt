@@ -26,7 +26,7 @@ use Rattle.hp_summary.specs.declared.gathering.Survey.{Survey}
 use Rattle.hp_summary.specs.declared.tally.Tally.{Tally}
 use Rattle.hp_watch.specs.Moments.{Moment, IsHistory, IsRunOf, last_of}
 use Rattle.hp_summary.specs.Noting.{AreLong, AreNotes}
-use Rattle.hp_summary.specs.declared.facts.Ended.{Ended}
+use Rattle.hp_watch.specs.declared.calls.EndedCall.{EndedCall}
 use Rattle.hp_summary.specs.declared.facts.RunFacts.{RunFacts}
 use Rattle.hp_summary.specs.declared.gathering.Batch.{Batch}
 use Rattle.hp_summary.specs.declared.noting.Notes.{Notes}
@@ -80,8 +80,8 @@ noted_goes_on script seed deny kill run plan old new n m e o had planned row goe
 pub are_facts : (script : Script) (seed deny kill run : ℕ) (plan : Plan) (r : RunState) (n : Notes) (facts : RunFacts)
     → IsNoted script seed deny kill run r n → plan ≡ plan_of script deny kill → AreLong n script.config.tasks
     → EndsAs plan r run facts.line → EndsWell facts.line.finish
-    → IsSortedByKey (λ (x : Ended). x.task) nat_cmp facts.ended.items
-    → IsStableByKey (λ (x : Ended). x.task) nat_cmp n.ended.items facts.ended.items
+    → IsSortedByKey (λ (x : EndedCall). x.task) nat_cmp facts.ended.items
+    → IsStableByKey (λ (x : EndedCall). x.task) nat_cmp n.ended.items facts.ended.items
     → facts.held.items ≡ n.held.items → facts.met.items ≡ n.met.items → IsFactsOf script seed deny kill run facts
 are_facts script seed deny kill run plan r n facts had planned long line ends sorted stable held met =
     record {
@@ -93,7 +93,7 @@ are_facts script seed deny kill run plan r n facts had planned long line ends so
       made = had.made;
       answers = record {
         tasks = sorted;
-        each = subst (λ (xs : List Ended). IsStableByKey (λ (x : Ended). x.task) nat_cmp xs facts.ended.items) had.are.ended stable;
+        each = subst (λ (xs : List EndedCall). IsStableByKey (λ (x : EndedCall). x.task) nat_cmp xs facts.ended.items) had.are.ended stable;
       };
       tasks = ap (λ (xs : List _). length xs) held ∙ long.held;
       held = λ t one there. rw held (had.are.held.once t one (omega (arith, there, long.held)));

@@ -33,13 +33,13 @@ use Rattle.hp_alike.proofs.Twins.{opening_reached}
 use Rattle.hp_watch.specs.Phases.{ArePhases}
 use Rattle.hp_watch.proofs.Phases.{waits_not}
 use Rattle.hp_phases.proofs.Places.{one_place, there}
-use Rattle.hp_summary.specs.Facts.{IsHeldUp, StandTogether, begun_by, ended_by, last_call}
+use Rattle.hp_summary.specs.Facts.{IsHeldUp, StandTogether}
 use Rattle.hp_watch.specs.Moments.{Moment, Once}
-use Rattle.hp_summary.specs.Noting.{AreCalls, AreHeldUp, AreMet, BeginsThere, IsLookedAt, IsQuiet}
-use Rattle.hp_summary.specs.CallWords as named
-use Rattle.hp_summary.specs.declared.call_word.CallWord.{CallWord}
-use Rattle.hp_summary.specs.declared.call_word.CallWord.TheVariants.{Nothing}
-use Rattle.hp_summary.specs.declared.facts.Ended.{Ended}
+use Rattle.hp_summary.specs.Noting.{AreHeldUp, AreMet, IsLookedAt, IsQuiet}
+use Rattle.hp_watch.specs.CallWords as named
+use Rattle.hp_watch.specs.declared.call_word.CallWord.{CallWord}
+use Rattle.hp_watch.specs.declared.call_word.CallWord.TheVariants.{Nothing}
+use Rattle.hp_watch.specs.declared.calls.EndedCall.{EndedCall}
 use Rattle.hp_summary.specs.Phases.{ArePair, IsMarked, MeetsBelow, beside, pair_place}
 use Rattle.hp_watch.proofs.Standing.{stands_there}
 
@@ -516,92 +516,3 @@ none_held config s n marks is opens =
 pub opened_reached : (config : Config) (s : CoreState) → IsOpening config s → IsReached (as_state s)
 unfolding IsOpening
 opened_reached config s opens = subst IsReached (sym opens.1) (opening_reached (geometry (sizes config)) config.frames)
-
--- ---- which calls were begun
-
-pub none_begun : (calls : List CallWord) (n : ℕ) → calls ≡ replicate n Nothing → AreCalls calls []
-unfolding AreCalls
-none_begun calls n is t = subst (λ (xs : List CallWord). slice_index_or xs t Nothing ≡ Nothing) (sym is)
-    (elim (below t) [
-      | inl lt ↦ get_or-replicate n t Nothing Nothing lt
-      | inr past ↦ get_or_past (replicate n Nothing) t Nothing (omega (arith, past, length-replicate {A = CallWord} n Nothing))
-    ])
-  where
-    below : (k : ℕ) → (k < n) ⊎ (n ≤ k)
-    below k = grind arith
-
--- a call that begins is one of a task that is there
-pub begins_there : (s v : CoreState) (event : Event) (o : Outcome) (n : ℕ) → Row s event o v → IsReached (as_state v) → IsOfConfig v
-    → n ≡ (config_of v).tasks + 1 → BeginsThere n event o
-unfolding Row phase_of
-begins_there s v (Begin t p) outcome.Begun n row reached sized long =
-    begin_cases (as_state s) t p outcome.Begun (as_state v) (t < n) row.0
-    (λ why e d. let bad : ⊥ = cc in absurd bad)
-    (λ lives none may e d. omega (
-      arith,
-      long,
-      (stands_there v t (word_of (first p)) reached sized
-          (ap (λ (x : State). option_map word_of (x.calls t)) d
-          ∙ ap (λ (c : Option Call). option_map word_of c) (put_same (as_state s).calls t (Some (first p))))).1,
-    ))
-begins_there s v (Begin t p) (outcome.Moved q) n row reached sized long = tt
-begins_there s v (Begin t p) (outcome.Blocked h) n row reached sized long = tt
-begins_there s v (Begin t p) (outcome.Ended a) n row reached sized long = tt
-begins_there s v (Begin t p) outcome.Marked n row reached sized long = tt
-begins_there s v (Begin t p) (outcome.Resized m) n row reached sized long = tt
-begins_there s v (Begin t p) (outcome.Refused why) n row reached sized long = tt
-begins_there s v (Step t grant) o n row reached sized long = tt
-begins_there s v (Kill t) o n row reached sized long = tt
-begins_there s v (Resize m) o n row reached sized long = tt
-
-its_own : (t : ℕ) (x was : CallWord) → (if t == t then x else was) ≡ x
-its_own t x was = grind (arith, nat_tests)
-
-anothers : (t u : ℕ) (x was : CallWord) → u ≢ t → (if t == u then x else was) ≡ was
-anothers t u x was other = grind (arith, nat_tests)
-
--- one more is that of its task
-of_begin : (calls : List CallWord) (before : List Moment) (core : CoreState) (t : ℕ) (p : Op) → t < length calls
-    → AreCalls calls before
-    → AreCalls (slice_set calls t (named.word_of p)) (record { event = Begin t p; outcome = outcome.Begun; core = core } ∷ before)
-unfolding AreCalls
-of_begin calls before core t p there were u = elim (same_or_other u t) [
-  | inl same ↦ subst (λ (k : ℕ). slice_index_or (slice_set calls t (named.word_of p)) k Nothing
-      ≡ (if t == k then named.word_of p else last_call k before)) (sym same)
-      (get_or-set_same calls t (named.word_of p) Nothing there ∙ sym (its_own t (named.word_of p) (last_call t before)))
-  | inr other ↦ get_or-set_other calls t u (named.word_of p) Nothing other ∙ were u
-      ∙ sym (anothers t u (named.word_of p) (last_call u before) other)
-]
-
-pub one_begun : (calls : List CallWord) (before : List Moment) (core : CoreState) (event : Event) (o : Outcome) (t : ℕ) (p : Op)
-    → event ≡ Begin t p → o ≡ outcome.Begun → t < length calls → AreCalls calls before
-    → AreCalls (slice_set calls t (named.word_of p)) (record { event = event; outcome = o; core = core } ∷ before)
-one_begun calls before core event o t p e d there were =
-    subst (λ (x : Event). AreCalls (slice_set calls t (named.word_of p)) (record { event = x; outcome = o; core = core } ∷ before))
-    (sym e)
-    (subst (λ (x : Outcome). AreCalls (slice_set calls t (named.word_of p))
-    (record { event = Begin t p; outcome = x; core = core } ∷ before)) (sym d) (of_begin calls before core t p there were))
-
--- its task has a place
-pub begun_there : (n : ℕ) (event : Event) (o : Outcome) (t : ℕ) (p : Op) → event ≡ Begin t p → o ≡ outcome.Begun
-    → BeginsThere n event o → t < n
-begun_there n event o t p e d there =
-    subst (λ (x : Outcome). BeginsThere n (Begin t p) x) d (subst (λ (x : Event). BeginsThere n x o) e there)
-
--- where none begins all stay
-pub none_more_begun : (calls : List CallWord) (before : List Moment) (m : Moment)
-    → ((t : ℕ) (was : CallWord) → begun_by t m.event m.outcome was ≡ was) → AreCalls calls before → AreCalls calls (m ∷ before)
-unfolding AreCalls
-none_more_begun calls before m none were t = were t ∙ sym (none t (last_call t before))
-
--- what ends is the call that its task has begun last
-pub one_ended : (calls : List CallWord) (before : List Moment) (event : Event) (o : Outcome) (t : ℕ) (grant : Bool) (a : Answer)
-    (w : CallWord) → event ≡ Step t grant → o ≡ outcome.Ended a → w ≡ slice_index_or calls t Nothing → AreCalls calls before
-    → ended_by before event o ≡ record { task = t; call = w; answer = a } ∷ []
-unfolding AreCalls
-one_ended calls before event o t grant a w e d is were =
-    ap (λ (x : Event). ended_by before x o) e ∙ ap (λ (x : Outcome). ended_by before (Step t grant) x) d
-    ∙ ap (λ (x : CallWord). the_one x) (sym (is ∙ were t))
-  where
-    the_one : CallWord → List Ended
-    the_one x = record { task = t; call = x; answer = a } ∷ []

@@ -1,4 +1,3 @@
-pub mod CallWords
 pub mod Facts
 pub mod Gathering
 pub mod Noting

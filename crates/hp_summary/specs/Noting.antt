@@ -1,9 +1,7 @@
 -- What is known of a run while it is made.
 use Rattle.std.specs.Prelude.{◌≡◌, ◌↔◌, ◌+◌, ◌-◌, ◌<◌, ◌≤◌, ℕ, Bool, true, false, List, Option, None, Some, length, slice_index_or}
 use Rattle.hp_base.specs.declared.event.Event.{Event}
-use Rattle.hp_base.specs.declared.event.Event.TheVariants.{Begin}
 use Rattle.hp_machine.specs.declared.outcome.Outcome.{Outcome}
-use Rattle.hp_machine.specs.declared.outcome.Outcome.TheVariants.{Begun}
 use Rattle.hp_machine.specs.declared.phase.Phase.{Phase}
 use Rattle.hp_machine.specs.Events.{IsReached}
 use Rattle.hp_laws.specs.Laws.{IsOf}
@@ -11,11 +9,10 @@ use Rattle.hp_core.specs.Passing.{task_may_pass}
 use Rattle.hp_core.specs.Runs.{Row}
 use Rattle.hp_core.specs.State.{CoreState, as_state}
 use Rattle.hp_watch.specs.Phases.{ArePhases}
-use Rattle.hp_summary.specs.Facts.{HaveMet, IsHeldUp, StandTogether, WasHeldUp, ended_in, last_call}
+use Rattle.hp_summary.specs.Facts.{HaveMet, IsHeldUp, StandTogether, WasHeldUp}
+use Rattle.hp_watch.specs.Calls.{AreCalls, ended_in}
 use Rattle.hp_watch.specs.Moments.{Moment, Once}
 use Rattle.hp_summary.specs.Phases.{IsMarked}
-use Rattle.hp_summary.specs.declared.call_word.CallWord.{CallWord}
-use Rattle.hp_summary.specs.declared.call_word.CallWord.TheVariants.{Nothing}
 use Rattle.hp_summary.specs.declared.noting.Notes.{Notes}
 
 -- the event, with that outcome, led to that core, from one where calls stood so
@@ -35,18 +32,8 @@ abbrev pub IsLookedAt : Option ℕ → (k : ℕ) → Type 0
 IsLookedAt (Some place) k = k ≡ place
 IsLookedAt None k = Unit {0}
 
--- a call that begins is one of a task with one of so many places
-abbrev pub BeginsThere : (places : ℕ) → Event → Outcome → Type 0
-BeginsThere n (Begin t op) Begun = t < n
-BeginsThere n other told = Unit {0}
-
--- the call that each task has begun last, at the place of its number
-unfoldable pub AreCalls : List CallWord → List Moment → Type 0
-AreCalls calls moments = (t : ℕ) → slice_index_or calls t Nothing ≡ last_call t moments
-
 -- there is room for each task, and for each pair of phases
 pub record AreLong (notes : Notes) (tasks : ℕ) : Type 0 where
-  pub calls : length notes.calls.items ≡ tasks + 1
   pub phases : length notes.phases.items ≡ tasks
   pub held : length notes.held.items ≡ tasks
   pub met : length notes.met.items ≡ 729
@@ -65,7 +52,7 @@ pub record AreHeldUp (held : List Bool) (core : CoreState) (moments : List Momen
 pub record AreNotes (notes : Notes) (core : CoreState) (moments : List Moment) : Type 0 where
   pub reached : IsReached (as_state core)
   pub phases : ArePhases core notes.phases.items
-  pub calls : AreCalls notes.calls.items moments
+  pub calls : AreCalls notes.calls.tasks.items moments
   pub ended : notes.ended.items ≡ ended_in moments
   pub held : AreHeldUp notes.held.items core moments
   pub met : AreMet notes.met.items core moments

@@ -7,7 +7,7 @@ use Rattle.std.specs.Ordering.{nat_cmp}
 use Rattle.hp_explore.specs.declared.line.Finish.TheVariants.{Finished}
 use Rattle.hp_text.specs.declared.script.Script.{Script}
 use Rattle.hp_summary.specs.Facts.{IsFactsOf}
-use Rattle.hp_summary.specs.declared.facts.Ended.{Ended}
+use Rattle.hp_watch.specs.declared.calls.EndedCall.{EndedCall}
 use Rattle.hp_summary.specs.declared.facts.RunFacts.{RunFacts}
 use Rattle.hp_summary.specs.declared.gathering.Survey.{Survey}
 use Rattle.hp_summary.specs.declared.summary.Summary.{Summary}
@@ -32,15 +32,15 @@ abbrev pub IsSet : (place : ℕ) → List Bool → Type 0
 IsSet k marks = slice_index_or marks k false ≡ true
 
 -- the calls of the run ended so
-abbrev pub EndsSo : List Ended → RunFacts → Type 0
+abbrev pub EndsSo : List EndedCall → RunFacts → Type 0
 EndsSo ended f = f.ended.items ≡ ended
 
 -- they ended in none of these ways
-abbrev pub IsOther : (kept : List (List Ended)) → RunFacts → Type 0
+abbrev pub IsOther : (kept : List (List EndedCall)) → RunFacts → Type 0
 IsOther kept f = All (λ ended. f.ended.items ≢ ended) kept
 
 -- the run of that number is the first whose calls ended so
-pub record IsFirstSo (facts : List RunFacts) (ended : List Ended) (run : ℕ) : Type 0 where
+pub record IsFirstSo (facts : List RunFacts) (ended : List EndedCall) (run : ℕ) : Type 0 where
   pub there : run < length facts
   pub so : (d : RunFacts) → EndsSo ended (slice_index_or facts run d)
   pub before : (k : ℕ) (d : RunFacts) → k < run → ¬ EndsSo ended (slice_index_or facts k d)
@@ -50,7 +50,7 @@ pub record IsEndingOf (facts : List RunFacts) (e : Ending) : Type 0 where
   pub runs : IsCount (EndsSo e.ended.items) facts e.runs
   pub first : IsFirstSo facts e.ended.items e.first
 
-abbrev pub kept_of : List Ending → List (List Ended)
+abbrev pub kept_of : List Ending → List (List EndedCall)
 kept_of endings = map (λ e. e.ended.items) endings
 
 abbrev pub firsts_of : List Ending → List ℕ

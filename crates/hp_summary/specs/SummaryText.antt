@@ -6,9 +6,9 @@ use Rattle.hp_base.specs.Text.{answer_text}
 use Rattle.hp_machine.specs.Text.{phase_word}
 use Rattle.hp_machine.specs.declared.phase.Phase.{Phase}
 use Rattle.hp_phases.specs.Phases.{all_phases, place_of}
-use Rattle.hp_summary.specs.CallWords.{word_text}
+use Rattle.hp_watch.specs.CallWords.{word_text}
 use Rattle.hp_summary.specs.Phases.{pair_place}
-use Rattle.hp_summary.specs.declared.facts.Ended.{Ended}
+use Rattle.hp_watch.specs.declared.calls.EndedCall.{EndedCall}
 use Rattle.hp_summary.specs.declared.summary.Summary.{Summary}
 use Rattle.hp_summary.specs.declared.tally.Ending.{Ending}
 
@@ -46,7 +46,7 @@ abbrev pub met_text : List ℕ → List ℕ
 met_text met = flat_map (λ p. flat_map (met_line met p) all_phases) all_phases
 
 -- ` | T CALL ANSWER`: a call of task T that ended
-abbrev pub call_text : Ended → List ℕ
+abbrev pub call_text : EndedCall → List ℕ
 call_text e = codes " | " ++ (decimal e.task ++ (codes " " ++ (word_text e.call ++ (codes " " ++ answer_text e.answer))))
 
 -- `ending N run K seed S | T CALL ANSWER ..`: so many runs ended in this way, and run K, which has that seed, was the first

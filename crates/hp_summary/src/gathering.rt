@@ -4,13 +4,14 @@ ghost use Rattle.hp_explore.specs.Schedule.{plan_of};
 ghost use Rattle.hp_summary.specs.Facts.{IsFactsOf};
 ghost use Rattle.hp_summary.specs.Gathering.{AreCounted, AreFactsAt, AreRuns};
 
-use crate::facts::{Ended, RunFacts};
+use crate::facts::RunFacts;
 use crate::noting::Notes;
 use crate::tally::Tally;
 use hp_base::{Answer, Event, Op};
 use hp_core::Outcome;
 use hp_explore::{Chances, Plan, ScheduledRun};
 use hp_text::Script;
+use hp_watch::EndedCall;
 use hp_workers::{Work, all_made};
 use std::alloc::{AllocError, Global};
 use std::thread::Threads;
@@ -62,7 +63,7 @@ fn facts_of_run(
         met,
         ..
     } = notes;
-    ended.sort_by_key(|call: &Ended| call.task.number())?;
+    ended.sort_by_key(|call: &EndedCall| call.task.number())?;
     Ok(RunFacts {
         line,
         ended,

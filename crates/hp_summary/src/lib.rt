@@ -4,7 +4,6 @@
 //! of, each by its own facts, and that it is written as it is spelled. It knows no conditions and no words of a command line.
 #![tactic(auto)]
 
-mod call_word;
 mod facts;
 mod gathering;
 mod noting;
@@ -13,8 +12,7 @@ mod summary;
 mod summary_text;
 mod tally;
 
-pub use call_word::CallWord;
-pub use facts::{Ended, RunFacts};
+pub use facts::RunFacts;
 pub use gathering::Survey;
 pub use summary::{Summary, summarize};
 pub use summary_text::write_summary;

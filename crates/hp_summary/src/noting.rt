@@ -8,18 +8,15 @@ ghost use Rattle.hp_laws.specs.Laws.{IsOf};
 ghost use Rattle.hp_core.specs.Readers.{config_of};
 ghost use Rattle.hp_core.specs.Runs.{IsOpening, Row};
 ghost use Rattle.hp_core.specs.State.{CoreState};
-ghost use Rattle.hp_summary.specs.Facts.{IsHeldUp, begun_by, ended_by};
+ghost use Rattle.hp_summary.specs.Facts.{IsHeldUp};
 ghost use Rattle.hp_watch.specs.Moments.{Moment};
-ghost use Rattle.hp_summary.specs.Noting.{AreCalls, AreLong, AreMet, AreNotes, BeginsThere, CameBy, IsLookedAt, IsQuiet};
+ghost use Rattle.hp_summary.specs.Noting.{AreLong, AreMet, AreNotes, CameBy, IsLookedAt, IsQuiet};
 ghost use Rattle.hp_watch.specs.Phases.{ArePhases};
-ghost use Rattle.hp_summary.specs.declared.call_word.CallWord.{CallWord};
 
-use crate::call_word::{CallWord, word_of};
-use crate::facts::Ended;
 use crate::phases::{PAIRS, mark_meetings};
 use hp_base::{Answer, Event, Op, Task};
 use hp_core::{Core, Outcome, Phase};
-use hp_watch::{is_held_up, may_pass, may_wait, no_calls, phase_after};
+use hp_watch::{Calls, EndedCall, is_held_up, may_pass, may_wait, no_calls, phase_after};
 use std::alloc::{AllocError, Global};
 
 /// What is noted of a run while it is made.
@@ -27,10 +24,10 @@ use std::alloc::{AllocError, Global};
 pub(crate) struct Notes {
     // where the call of each task stands
     phases: Vec<Option<Phase>>,
-    // the call that each task has begun last, at the place of its number
-    calls: Vec<CallWord>,
+    // the calls that each task has begun
+    calls: Calls,
     // the calls that ended, in the order in which they did
-    pub(crate) ended: Vec<Ended>,
+    pub(crate) ended: Vec<EndedCall>,
     // whether each task was held up
     pub(crate) held: Vec<bool>,
     // which phases met
@@ -56,67 +53,6 @@ fn task_among(event: &Event, tasks: u32) -> Option<Task>
 {
     match task_of(event) {
         Some(task) if 1 <= task.number() && task.number() <= tasks => Some(task),
-        _ => None,
-    }
-}
-
-/// The call that the task has begun last.
-fn last_call(calls: &[CallWord], task: Task) -> CallWord
-    ensures { result ≡ slice_index_or calls.now task CallWord.Nothing }
-{
-    calls
-        .get(task.number() as usize)
-        .copied()
-        .unwrap_or(CallWord::Nothing)
-}
-
-/// A call that begins: whose it is, and what it asks for.
-#[derive(Clone, Copy)]
-struct Begun {
-    task: Task,
-    op: Op,
-}
-
-/// The call that begins by this event.
-fn begun_by(event: &Event, outcome: &Outcome) -> Option<Begun>
-    ensures some { IfSome result (λ begun. (event.now ≡ Event.Begin begun.task begun.op) × (outcome.now ≡ Outcome.Begun)) }
-    ensures none { result ≡ None → (t : ℕ) (was : CallWord) → begun_by t event.now outcome.now was ≡ was }
-{
-    match (event, outcome) {
-        (Event::Begin(task, op), Outcome::Begun) => Some(Begun {
-            task: *task,
-            op: *op,
-        }),
-        _ => None,
-    }
-}
-
-/// Notes which call begins, if one does.
-fn note_call(calls: &mut Vec<CallWord>, event: &Event, outcome: &Outcome)
-    requires there { BeginsThere (length calls.old.items) event.now outcome.now }
-    ensures long { length calls.new.items ≡ length calls.old.items }
-    ensures calls { (before : List Moment) (core : CoreState) → AreCalls calls.old.items before
-        → AreCalls calls.new.items (record { event = event.now; outcome = outcome.now; core = core } ∷ before) }
-{
-    if let Some(begun) = begun_by(event, outcome) {
-        calls[begun.task.number() as usize] = word_of(begun.op);
-    }
-}
-
-/// The call that ends by this event, and what with.
-fn ended_by(event: &Event, outcome: &Outcome, calls: &[CallWord]) -> Option<Ended>
-    ensures some { IfSome result (λ ended. (before : List Moment) → AreCalls calls.now before
-        → ended_by before event.now outcome.now ≡ ended ∷ []) }
-    ensures none { result ≡ None → (before : List Moment) → ended_by before event.now outcome.now ≡ [] }
-{
-    // The checker of borrows asks for a mention of the types that an event and an outcome may hold.
-    let _none: (Option<Op>, Option<Answer>) = (None, None);
-    match (event, outcome) {
-        (Event::Step(task, _), Outcome::Ended(answer)) => Some(Ended {
-            task: *task,
-            call: last_call(calls, *task),
-            answer: *answer,
-        }),
         _ => None,
     }
 }
@@ -237,7 +173,7 @@ impl Notes {
     {
         Ok(Notes {
             phases: no_calls(alloc, tasks)?,
-            calls: vec![in alloc; CallWord::Nothing; tasks as usize + 1]?,
+            calls: Calls::new(alloc),
             ended: Vec::new(alloc),
             held: vec![in alloc; false; tasks as usize]?,
             met: vec![in alloc; false; PAIRS]?,
@@ -264,9 +200,9 @@ impl Notes {
         let tasks = core.config().tasks;
         core.is_reached();
         core.always();
-        let ended = ended_by(event, outcome, self.calls.as_slice());
+        let ended = self.calls.ended_by(event, outcome);
         let quiet = quiet_place(event, self.phases.as_slice(), tasks);
-        note_call(&mut self.calls, event, outcome);
+        self.calls.see(event, outcome)?;
         note_phase(&mut self.phases, &mut self.met, event, outcome, core, tasks);
         mark_waiting(&mut self.held, self.phases.as_slice(), core, tasks, quiet);
         if let Some(ended) = ended {

@@ -8,7 +8,6 @@ ghost use Rattle.hp_phases.specs.Phases.{all_phases};
 ghost use Rattle.hp_text.specs.Streams.{TellsWrites};
 ghost use Rattle.hp_text.specs.Writing.{IsWriteFault, Wrote};
 
-use crate::facts::Ended;
 use crate::phases::pair_place;
 use crate::summary::Summary;
 use crate::tally::Ending;
@@ -16,6 +15,7 @@ use hp_base::Answer;
 use hp_core::Phase;
 use hp_phases::{PHASES, phase_at, place_of};
 use hp_text::{ReplayFault, Sink, write_text};
+use hp_watch::EndedCall;
 use std::alloc::{AllocError, Global};
 
 /// Lays out how runs ended.
@@ -101,15 +101,15 @@ fn push_met(met: &[u32], text: &mut String) -> Result<(), AllocError>
 }
 
 /// Lays out a call that ended.
-fn push_call(call: Ended, text: &mut String) -> Result<(), AllocError>
+fn push_call(call: EndedCall, text: &mut String) -> Result<(), AllocError>
     ensures { OnOk result (string_bytes text.new ≡ string_bytes text.old ++ call_text call) }
 {
-    let Ended { task, call, answer } = call;
+    let EndedCall { task, call, answer } = call;
     write!(text, " | {task} {call} {answer}")
 }
 
 /// Lays out the calls that ended.
-fn push_calls(ended: &[Ended], text: &mut String) -> Result<(), AllocError>
+fn push_calls(ended: &[EndedCall], text: &mut String) -> Result<(), AllocError>
     ensures { OnOk result (string_bytes text.new ≡ string_bytes text.old ++ flat_map call_text ended.now) }
 {
     for call in ended {

@@ -5,10 +5,11 @@ ghost use Rattle.std.specs.List.{list_any};
 ghost use Rattle.hp_summary.specs.Summaries.{AreEndings, IsFinished, IsSized, IsTallied, IsTallyOf};
 ghost use Rattle.hp_summary.specs.declared.facts.RunFacts.{RunFacts};
 
-use crate::facts::{Ended, RunFacts};
+use crate::facts::RunFacts;
 use crate::phases::PAIRS;
 use hp_base::Answer;
 use hp_explore::Finish;
+use hp_watch::EndedCall;
 use std::alloc::{AllocError, Global};
 
 /// How many ways in which runs end are kept apart: those of the first runs.
@@ -18,7 +19,7 @@ const MOST_ENDINGS: usize = 256;
 #[derive(Debug, Drop)]
 pub struct Ending {
     /// The calls that ended, task by task.
-    pub ended: Vec<Ended>,
+    pub ended: Vec<EndedCall>,
     /// How many runs ended so.
     pub runs: u32,
     /// The first of them.
@@ -91,7 +92,7 @@ fn count_marks(counts: &mut Vec<u32>, marks: &[bool])
 }
 
 /// Whether calls ended in the same way.
-fn is_same(one: &[Ended], other: &[Ended]) -> bool
+fn is_same(one: &[EndedCall], other: &[EndedCall]) -> bool
     ensures { MatchBool result (one.now ≡ other.now) (one.now ≢ other.now) }
 {
     // The checker of borrows asks for a mention of the type that is compared.
@@ -100,7 +101,7 @@ fn is_same(one: &[Ended], other: &[Ended]) -> bool
 }
 
 /// The place of the ending in which calls ended so.
-fn find_ending(endings: &[Ending], ended: &[Ended]) -> Option<usize>
+fn find_ending(endings: &[Ending], ended: &[EndedCall]) -> Option<usize>
     ensures there { IfSome result (λ place. place < length endings.now) }
     ensures same { IfSome result (λ place. (d : Ending) → (slice_index_or endings.now place d).ended.items ≡ ended.now) }
     ensures none { result ≡ None → All (λ ending. ended.now ≢ ending.ended.items) endings.now }
@@ -118,7 +119,7 @@ fn count_ending(
     alloc: Global,
     endings: &mut Vec<Ending>,
     other: &mut u32,
-    ended: &[Ended],
+    ended: &[EndedCall],
     run: u32,
 ) -> Result<(), AllocError>
     requires room { (before : List RunFacts) × AreEndings before endings.old.items other.old × (length before + 1 < 2 ^ 32) }

@@ -1,3 +1,4 @@
+pub mod Begun
 pub mod Holders
 pub mod Happenings
 pub mod Moments

@@ -1,3 +1,5 @@
+pub mod CallWords
+pub mod Calls
 pub mod Holders
 pub mod Happenings
 pub mod Linux

@@ -6,11 +6,15 @@
 #![tactic(auto)]
 
 mod asked;
+mod call_word;
+mod calls;
 mod linux;
 mod passing;
 mod run;
 
 pub use asked::{is_held_up, stands_at};
+pub use call_word::{CallWord, word_of};
+pub use calls::{Calls, EndedCall, TaskCalls};
 pub use linux::{linux_of_op, linux_of_step};
 pub use passing::{can_leave, may_pass, may_wait, no_calls, phase_after};
 pub use run::{Run, phase_in, stood_at};

@@ -5,9 +5,9 @@ use Rattle.std.proofs.lemmas.Bool.Decides.{Decides-eqb}
 use Rattle.std.proofs.lemmas.Slice.Eq.{slice_eq-Decides}
 use Rattle.hp_base.specs.contracts.answer.AnswerPartialEq as AnswerPartialEq
 use Rattle.hp_base.specs.declared.answer.Answer.{Answer}
-use Rattle.hp_summary.specs.contracts.call_word.CallWordPartialEq as CallWordPartialEq
-use Rattle.hp_summary.specs.declared.call_word.CallWord.{CallWord}
-use Rattle.hp_summary.specs.declared.facts.Ended.{Ended}
+use Rattle.hp_watch.specs.contracts.call_word.CallWordPartialEq as CallWordPartialEq
+use Rattle.hp_watch.specs.declared.call_word.CallWord.{CallWord}
+use Rattle.hp_watch.specs.declared.calls.EndedCall.{EndedCall}
 use Rattle.hp_summary.proofs.tally.is_same.Goals as goal
 
 by : (b : Bool) (P : Type 0) → Decides b P → MatchBool b P (P → ⊥)
@@ -25,12 +25,12 @@ answers : (a b : Answer) → Decides (AnswerPartialEq.TheImpl.ghosts.eq a b) (a 
 answers a b = search rules
 
 -- calls ended in the same way if they are of the same task, the same call, and have the same answer
-same : (a b : Ended) → a.task ≡ b.task → a.call ≡ b.call → a.answer ≡ b.answer → a ≡ b
+same : (a b : EndedCall) → a.task ≡ b.task → a.call ≡ b.call → a.answer ≡ b.answer → a ≡ b
 same a b t c n =
     ap (λ x. record a { task = x }) t ∙ ap (λ x. record a { task = b.task; call = x }) c
     ∙ ap (λ x. record b { answer = x }) n
 
-alike : (a b : Ended) → Decides ((a.task == b.task)
+alike : (a b : EndedCall) → Decides ((a.task == b.task)
     && (CallWordPartialEq.TheImpl.ghosts.eq a.call b.call && AnswerPartialEq.TheImpl.ghosts.eq a.answer b.answer)) (a ≡ b)
 alike a b =
     let all = both (a.task == b.task) (CallWordPartialEq.TheImpl.ghosts.eq a.call b.call && AnswerPartialEq.TheImpl.ghosts.eq a.answer b.answer)
@@ -38,7 +38,7 @@ alike a b =
     (both (CallWordPartialEq.TheImpl.ghosts.eq a.call b.call) (AnswerPartialEq.TheImpl.ghosts.eq a.answer b.answer)
     (a.call ≡ b.call) (a.answer ≡ b.answer) (calls a.call b.call) (answers a.answer b.answer)) in (
       λ e. same a b (all.0 e).0 (all.0 e).1.0 (all.0 e).1.1,
-      λ e. all.1 (ap (λ (x : Ended). x.task) e, (ap (λ (x : Ended). x.call) e, ap (λ (x : Ended). x.answer) e)),
+      λ e. all.1 (ap (λ (x : EndedCall). x.task) e, (ap (λ (x : EndedCall). x.call) e, ap (λ (x : EndedCall). x.answer) e)),
     )
 
 pub returns : goal.returns

@@ -1,6 +1,6 @@
 //! Calls, named as a trace names them.
 ghost use Rattle.std.specs.Prelude.{◌≡◌, Some};
-ghost use Rattle.hp_summary.specs.CallWords.{word_text, word_of};
+ghost use Rattle.hp_watch.specs.CallWords.{word_text, word_of};
 
 use hp_base::Op;
 use std::fmt;
@@ -23,7 +23,7 @@ pub enum CallWord {
 }
 
 /// The call of an operation.
-pub(crate) fn word_of(op: Op) -> CallWord
+pub fn word_of(op: Op) -> CallWord
     ensures { result ≡ word_of op }
 {
     match op {

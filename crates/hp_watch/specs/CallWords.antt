@@ -2,8 +2,8 @@
 use Rattle.std.specs.Prelude.{ℕ, true, false, List, codes}
 use Rattle.hp_base.specs.declared.event.Op.{Op}
 use Rattle.hp_base.specs.declared.event.Op.TheVariants as op
-use Rattle.hp_summary.specs.declared.call_word.CallWord.{CallWord}
-use Rattle.hp_summary.specs.declared.call_word.CallWord.TheVariants as call
+use Rattle.hp_watch.specs.declared.call_word.CallWord.{CallWord}
+use Rattle.hp_watch.specs.declared.call_word.CallWord.TheVariants as call
 
 -- the call of an operation
 abbrev pub word_of : Op → CallWord
