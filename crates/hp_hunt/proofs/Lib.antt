@@ -2,4 +2,6 @@ pub mod Claimed
 pub mod Cuts
 pub mod Explored
 pub mod Lefts
-pub mod Watches
+pub mod Watched
+pub mod Answered
+pub mod Compared

@@ -1,5 +1,5 @@
 -- What it is for a run to meet a condition.
-use Rattle.std.specs.Prelude.{◌≡◌, ◌==◌, ◌+◌, ◌&&◌, ℕ, Bool, true, false, if◌then◌else◌, List, [], ◌∷◌, Some, All}
+use Rattle.std.specs.Prelude.{◌≡◌, ◌<◌, ◌≤◌, ◌⊎◌, ℕ, List, Option, None, Some, All, Contains, IfSome, MatchBool}
 use Rattle.hp_base.specs.declared.answer.Answer.{Answer}
 use Rattle.hp_base.specs.declared.answer.Answer.TheVariants as answer
 use Rattle.hp_base.specs.declared.config.Config.{Config}
@@ -8,15 +8,29 @@ use Rattle.hp_base.specs.declared.event.Event.TheVariants.{Begin, Step, Kill, Re
 use Rattle.hp_machine.specs.declared.outcome.Outcome.{Outcome}
 use Rattle.hp_machine.specs.declared.outcome.Outcome.TheVariants.{Begun, Moved, Blocked, Ended, Marked, Resized, Refused}
 use Rattle.hp_core.specs.State.{CoreState}
-use Rattle.hp_core.specs.Readers.{calls_of, free_of, phase_of, resv_of, used_of}
+use Rattle.hp_core.specs.Readers.{calls_of, free_of, pages_of, phase_of, reserved_of, resv_of, used_of}
 use Rattle.hp_core.specs.Waiting.{WaitsFor}
+use Rattle.hp_watch.specs.Calls.{calls_begun, last_call}
 use Rattle.hp_watch.specs.Moments.{Moment, IsRunOf, Once, last_of}
+use Rattle.hp_watch.specs.declared.call_word.CallWord.{CallWord}
+use Rattle.hp_watch.specs.declared.call_word.CallWord.TheVariants as called
+use Rattle.hp_hunt.specs.declared.condition.AnswerName.{AnswerName}
+use Rattle.hp_hunt.specs.declared.condition.AnswerName.TheVariants.{Word, Linux}
 use Rattle.hp_hunt.specs.declared.condition.AnswerWord.{AnswerWord}
 use Rattle.hp_hunt.specs.declared.condition.AnswerWord.TheVariants as word
+use Rattle.hp_hunt.specs.declared.condition.CallChoice.{CallChoice}
+use Rattle.hp_hunt.specs.declared.condition.CallChoice.TheVariants.{Any, Number, Named}
+use Rattle.hp_hunt.specs.declared.condition.Comparison.{Comparison}
 use Rattle.hp_hunt.specs.declared.condition.Condition.{Condition}
-use Rattle.hp_hunt.specs.declared.condition.Condition.TheVariants as condition
+use Rattle.hp_hunt.specs.declared.condition.LinuxAnswer.{LinuxAnswer}
+use Rattle.hp_hunt.specs.declared.condition.LinuxAnswer.TheVariants.{Sigsegv, Sigbus, Enospc, Enomem, Eintr}
 use Rattle.hp_hunt.specs.declared.condition.PoolCount.{PoolCount}
-use Rattle.hp_hunt.specs.declared.condition.PoolCount.TheVariants.{Resv, Free, Used, Calls}
+use Rattle.hp_hunt.specs.declared.condition.PoolCount.TheVariants.{Resv, Free, Used, Calls, Reserved, Pages}
+use Rattle.hp_hunt.specs.declared.condition.Relation.{Relation}
+use Rattle.hp_hunt.specs.declared.condition.Relation.TheVariants.{Below, AtMost, Equal, AtLeast, Above}
+use Rattle.hp_hunt.specs.declared.condition.Sought.{Sought}
+use Rattle.hp_hunt.specs.declared.condition.Sought.TheVariants as sought
+use Rattle.hp_hunt.specs.declared.condition.SoughtAnswer.{SoughtAnswer}
 
 -- the first word of an answer
 abbrev pub word_of : Answer → AnswerWord
@@ -41,64 +55,123 @@ count_of Resv core = resv_of core
 count_of Free core = free_of core
 count_of Used core = used_of core
 count_of Calls core = calls_of core
+count_of (Reserved file) core = reserved_of core file
+count_of (Pages file) core = pages_of core file
 
--- the event asks for a call of the task
-abbrev pub is_begin : (task : ℕ) → Event → Bool
-is_begin t (Begin u op) = u == t
-is_begin t (Step u granted) = false
-is_begin t (Kill u) = false
-is_begin t (Resize frames) = false
+-- a count compares so with a number
+abbrev pub Compares : Relation → (count number : ℕ) → Type 0
+Compares Below count number = count < number
+Compares AtMost count number = count ≤ number
+Compares Equal count number = count ≡ number
+Compares AtLeast count number = number ≤ count
+Compares Above count number = number < count
 
--- and the call is in flight
-abbrev pub is_begun : Outcome → Bool
-is_begun Begun = true
-is_begun (Moved phase) = false
-is_begun (Blocked holder) = false
-is_begun (Ended answer) = false
-is_begun Marked = false
-is_begun (Resized frames) = false
-is_begun (Refused why) = false
-
--- how many calls the task has begun
-abbrev pub calls_begun : (task : ℕ) → List Moment → ℕ
-calls_begun t [] = 0
-calls_begun t (m ∷ before) = if is_begin t m.event && is_begun m.outcome then calls_begun t before + 1 else calls_begun t before
+-- the pool stands so
+abbrev pub HasCount : Comparison → CoreState → Type 0
+HasCount c core = Compares c.relation (count_of c.count core) c.number
 
 -- the event is a step of the task's call
 abbrev pub IsStepOf : (task : ℕ) → Event → Type 0
 IsStepOf t (Begin u op) = ⊥
-IsStepOf t (Step u granted) = u ≡ t
+IsStepOf t (Step u granted) = t ≡ u
 IsStepOf t (Kill u) = ⊥
 IsStepOf t (Resize frames) = ⊥
 
--- the call ended with such an answer
-abbrev pub EndsWith : AnswerWord → Outcome → Type 0
-EndsWith w Begun = ⊥
-EndsWith w (Moved phase) = ⊥
-EndsWith w (Blocked holder) = ⊥
-EndsWith w (Ended answer) = word_of answer ≡ w
-EndsWith w Marked = ⊥
-EndsWith w (Resized frames) = ⊥
-EndsWith w (Refused why) = ⊥
+-- the call ended with that answer
+abbrev pub IsEnd : Answer → Outcome → Type 0
+IsEnd a Begun = ⊥
+IsEnd a (Moved phase) = ⊥
+IsEnd a (Blocked holder) = ⊥
+IsEnd a (Ended answer) = a ≡ answer
+IsEnd a Marked = ⊥
+IsEnd a (Resized frames) = ⊥
+IsEnd a (Refused why) = ⊥
 
--- What is looked for at each moment: a step of the task ends its call with such an answer, and that is the call of that number
--- which it began; behind the moment the task waits for a holder; or both calls stand there. A count at the end isn't looked for.
-abbrev pub IsMetAt : Condition → List Moment → Moment → Type 0
-IsMetAt (condition.Answer t call w) before m = IsStepOf t m.event × EndsWith w m.outcome × (calls_begun t before ≡ call)
-IsMetAt (condition.Blocked t) before m = (holder : ℕ) × WaitsFor m.core t (Some holder)
-IsMetAt (condition.Meet t p u q) before m = (phase_of m.core t ≡ Some p) × (phase_of m.core u ≡ Some q)
-IsMetAt (condition.Final count n) before m = ⊥
+-- a call that translates a page; mmap; fallocate
+abbrev pub IsFault : CallWord → Type 0
+IsFault call = (call ≡ called.Load) ⊎ (call ≡ called.Store)
 
--- the run of these moments meets the condition: at one of them, or by its count at the end
+abbrev pub IsMapping : CallWord → Type 0
+IsMapping call = (call ≡ called.Map) ⊎ (call ≡ called.MapNoReserve)
+
+abbrev pub IsAllocation : CallWord → Type 0
+IsAllocation call = (call ≡ called.Alloc) ⊎ (call ≡ called.AllocKeep)
+
+-- frames or quota were lacking
+abbrev pub IsShort : AnswerWord → Type 0
+IsShort w = (w ≡ word.NoFrame) ⊎ (w ≡ word.NoQuota)
+
+-- what Linux tells a program whose call ends so
+abbrev pub IsLinux : LinuxAnswer → CallWord → AnswerWord → Type 0
+IsLinux Sigsegv call w = w ≡ word.Segv
+IsLinux Sigbus call w = IsFault call × ((w ≡ word.Beyond) ⊎ IsShort w)
+IsLinux Enospc call w = IsAllocation call × IsShort w
+IsLinux Enomem call w = (w ≡ word.NoAddress) ⊎ ((IsMapping call × IsShort w) ⊎ ((IsFault call → ⊥) × (w ≡ word.NoMemory)))
+IsLinux Eintr call w = w ≡ word.Interrupted
+
+-- the answer of such a call is called so
+abbrev pub IsNamed : AnswerName → CallWord → AnswerWord → Type 0
+IsNamed (Word asked) call w = w ≡ asked
+IsNamed (Linux linux) call w = IsLinux linux call w
+
+-- the task is the one that is asked for, if one is
+abbrev pub IsTaskOf : (asked : Option ℕ) → (task : ℕ) → Type 0
+IsTaskOf None t = Unit {0}
+IsTaskOf (Some u) t = t ≡ u
+
+-- the call is the one that is asked for: which it is, and how many were begun with it
+abbrev pub IsCallOf : CallChoice → CallWord → (begun : ℕ) → Type 0
+IsCallOf Any call begun = Unit {0}
+IsCallOf (Number n) call begun = begun ≡ n
+IsCallOf (Named word) call begun = call ≡ word
+
+-- the task's last call, which it was and how many were begun with it, is the one that is asked for; it ends with an answer of that name, and
+-- the pool stands so
+abbrev pub IsSoughtEnd : SoughtAnswer → CallWord → (begun task : ℕ) → Answer → CoreState → Type 0
+IsSoughtEnd s last begun t a core = IsTaskOf s.task t × (IsCallOf s.call last begun × (IsNamed s.name last (word_of a)
+    × IfSome s.counted (λ c. HasCount c core)))
+
+-- a step of the task ends its call with that answer, and both are sought
+pub record IsAnswered (s : SoughtAnswer) (before : List Moment) (m : Moment) : Type 0 where
+  pub task : ℕ
+  pub answer : Answer
+  pub step : IsStepOf task m.event
+  pub end : IsEnd answer m.outcome
+  pub is : IsSoughtEnd s (last_call task before) (calls_begun task before) task answer m.core
+
+-- the next step of the task's call is blocked by somebody; that of any task, where none is given
+abbrev pub IsSomeBlocked : (asked : Option ℕ) → CoreState → Type 0
+IsSomeBlocked asked core = (t : ℕ) × IsTaskOf asked t × ((holder : ℕ) × WaitsFor core t (Some holder))
+
+-- What is looked for at each moment: an answer; behind the moment a task that waits for a holder; or calls that both stand there. A count
+-- at the end isn't looked for.
+abbrev pub IsMetAt : Sought → List Moment → Moment → Type 0
+IsMetAt (sought.Answer s) before m = IsAnswered s before m
+IsMetAt (sought.Blocked task) before m = IsSomeBlocked task m.core
+IsMetAt (sought.Meet t p u q) before m = (phase_of m.core t ≡ Some p) × (phase_of m.core u ≡ Some q)
+IsMetAt (sought.Final c) before m = ⊥
+
+-- it is found in the run of these moments: at one of them, or by the count at the end
+abbrev pub Finds : CoreState → List Moment → Sought → Type 0
+Finds first moments (sought.Answer s) = Once (IsMetAt (sought.Answer s)) moments
+Finds first moments (sought.Blocked task) = Once (IsMetAt (sought.Blocked task)) moments
+Finds first moments (sought.Meet t p u q) = Once (IsMetAt (sought.Meet t p u q)) moments
+Finds first moments (sought.Final c) = HasCount c (last_of first moments)
+
+-- the run meets the condition: what is sought is found, or isn't, as is wanted
 abbrev pub Meets : CoreState → List Moment → Condition → Type 0
-Meets first moments (condition.Answer t call w) = Once (IsMetAt (condition.Answer t call w)) moments
-Meets first moments (condition.Blocked t) = Once (IsMetAt (condition.Blocked t)) moments
-Meets first moments (condition.Meet t p u q) = Once (IsMetAt (condition.Meet t p u q)) moments
-Meets first moments (condition.Final count n) = count_of count (last_of first moments) ≡ n
+Meets first moments c = MatchBool c.wanted (Finds first moments c.sought) (Finds first moments c.sought → ⊥)
 
--- it meets all of them
+-- it meets one of the alternatives with that number
+pub record MeetsChoice (conditions : List Condition) (first : CoreState) (moments : List Moment) (choice : ℕ) : Type 0 where
+  pub condition : Condition
+  pub given : Contains conditions condition
+  pub same : condition.choice ≡ choice
+  pub meets : Meets first moments condition
+
+-- it meets all of them: of alternatives one
 abbrev pub MeetsAll : List Condition → CoreState → List Moment → Type 0
-MeetsAll conditions first moments = All (Meets first moments) conditions
+MeetsAll conditions first moments = All (λ c. MeetsChoice conditions first moments c.choice) conditions
 
 -- a run of these events, from a new core of that config on, meets all conditions
 pub record SomeRunMeets (config : Config) (events : List Event) (conditions : List Condition) : Type 0 where

@@ -1,9 +1,7 @@
 //! What a run may be asked for.
-ghost use Rattle.std.specs.Prelude.{◌≡◌};
-ghost use Rattle.hp_hunt.specs.Conditions.{count_of, word_of};
-
-use hp_base::{Answer, Task};
-use hp_core::{Core, Phase};
+use hp_base::{File, Task};
+use hp_core::Phase;
+use hp_watch::CallWord;
 
 /// The first word of an answer, as a replay prints it: its number, where it has one, doesn't matter.
 #[derive(Clone, Copy, Debug, PartialEq, Eq)]
@@ -24,6 +22,33 @@ pub enum AnswerWord {
     NoAddress,
 }
 
+/// What Linux tells a program in place of some answers. It depends on the call.
+#[derive(Clone, Copy, Debug, PartialEq, Eq)]
+pub enum LinuxAnswer {
+    Sigsegv,
+    Sigbus,
+    Enospc,
+    Enomem,
+    Eintr,
+}
+
+/// An answer, by its word or as Linux names it.
+#[derive(Clone, Copy, Debug, PartialEq, Eq)]
+pub enum AnswerName {
+    Word(AnswerWord),
+    Linux(LinuxAnswer),
+}
+
+/// Which of the calls of a task.
+#[derive(Clone, Copy, Debug, PartialEq, Eq)]
+pub enum CallChoice {
+    Any,
+    /// That of this number, counted from 1. A call that is refused when it is begun isn't counted.
+    Number(u32),
+    /// Each of this name.
+    Named(CallWord),
+}
+
 /// A count of a pool.
 #[derive(Clone, Copy, Debug, PartialEq, Eq)]
 pub enum PoolCount {
@@ -35,21 +60,48 @@ pub enum PoolCount {
     Used,
     /// Calls in flight.
     Calls,
+    /// Reserved indices of a file. A file that the pool doesn't have has none.
+    Reserved(File),
+    /// Pages of a file. A file that the pool doesn't have has none.
+    Pages(File),
 }
 
-/// What a run may be asked for. Of a task that the pool doesn't have nothing is met.
+/// How a count compares with a number.
 #[derive(Clone, Copy, Debug, PartialEq, Eq)]
-pub enum Condition {
-    /// The call of that number that the task begins, counted from 1, ends with such an answer.
-    Answer {
-        task: Task,
-        call: u32,
-        word: AnswerWord,
-    },
-    /// Behind some event the next step of the task's call is blocked by somebody.
-    Blocked {
-        task: Task,
-    },
+pub enum Relation {
+    Below,
+    AtMost,
+    Equal,
+    AtLeast,
+    Above,
+}
+
+/// A count that compares so with a number.
+#[derive(Clone, Copy, Debug, PartialEq, Eq)]
+pub struct Comparison {
+    pub count: PoolCount,
+    pub relation: Relation,
+    pub number: u32,
+}
+
+/// An answer that is sought.
+#[derive(Clone, Copy, Debug, PartialEq, Eq)]
+pub struct SoughtAnswer {
+    /// Whose call it ends; that of any task where none is given.
+    pub task: Option<Task>,
+    pub call: CallChoice,
+    pub name: AnswerName,
+    /// How the pool is to stand behind the step that ends the call.
+    pub counted: Option<Comparison>,
+}
+
+/// What is sought in a run. Of a task that the pool doesn't have nothing is found.
+#[derive(Clone, Copy, Debug, PartialEq, Eq)]
+pub enum Sought {
+    /// A step ends a call with such an answer.
+    Answer(SoughtAnswer),
+    /// Behind some event the next step of the task's call is blocked by somebody; of any task's call where none is given.
+    Blocked(Option<Task>),
     /// Behind some event both tasks' calls stand in these phases.
     Meet {
         task: Task,
@@ -57,43 +109,16 @@ pub enum Condition {
         other: Task,
         other_phase: Phase,
     },
-    /// At the run's end the pool has this count.
-    Final {
-        count: PoolCount,
-        number: u32,
-    },
+    /// At the run's end the pool stands so.
+    Final(Comparison),
 }
 
-/// The answer's first word.
-pub(crate) fn word_of(answer: Answer) -> AnswerWord
-    ensures { result ≡ word_of answer }
-{
-    match answer {
-        Answer::Mapped(_) => AnswerWord::Mapped,
-        Answer::Word(_) => AnswerWord::Word,
-        Answer::Done => AnswerWord::Done,
-        Answer::Segv => AnswerWord::Segv,
-        Answer::Beyond => AnswerWord::Beyond,
-        Answer::NoFrame => AnswerWord::NoFrame,
-        Answer::NoQuota => AnswerWord::NoQuota,
-        Answer::NoMemory => AnswerWord::NoMemory,
-        Answer::Interrupted => AnswerWord::Interrupted,
-        Answer::Killed => AnswerWord::Killed,
-        Answer::BadFile => AnswerWord::BadFile,
-        Answer::BadRange => AnswerWord::BadRange,
-        Answer::NotMapped => AnswerWord::NotMapped,
-        Answer::NoAddress => AnswerWord::NoAddress,
-    }
-}
-
-/// The count of the pool.
-pub(crate) fn count_of(core: &Core, count: PoolCount) -> u32
-    ensures { result ≡ count_of count core.now }
-{
-    match count {
-        PoolCount::Resv => core.resv(),
-        PoolCount::Free => core.free(),
-        PoolCount::Used => core.used(),
-        PoolCount::Calls => core.calls(),
-    }
+/// What a run may be asked for.
+#[derive(Clone, Copy, Debug, PartialEq, Eq)]
+pub struct Condition {
+    pub sought: Sought,
+    /// Whether it is to be found, or not to be found.
+    pub wanted: bool,
+    /// Conditions with the same number are alternatives: one of them suffices.
+    pub choice: u32,
 }

@@ -5,7 +5,7 @@ ghost use Rattle.hp_hunt.specs.Hunting.{IsFound, NoneMeets, RunMeets, RunMisses}
 
 use crate::claims::{Part, search_part};
 use crate::condition::Condition;
-use crate::watching::{are_met, see_all, watch_all};
+use crate::watching::Watches;
 use hp_base::{Answer, Event, Op};
 use hp_core::Outcome;
 use hp_explore::{Chances, Plan, ScheduledRun};
@@ -55,13 +55,13 @@ pub(crate) fn explore_run(
         None, None, None, None,
     );
     events.clear();
-    let mut watches = watch_all(alloc, conditions)?;
+    let mut watches = Watches::new(alloc, conditions)?;
     let mut turns = ScheduledRun::begin(alloc, script, plan, seed, run)?;
     while let Some(turned) = turns.turn(plan)? {
-        see_all(&mut watches, &turned.event, &turned.outcome, turns.core());
+        watches.see(&turned.event, &turned.outcome, turns.core())?;
         events.push(turned.event)?;
     }
-    Ok(are_met(watches.as_slice(), turns.core()))
+    Ok(watches.are_met(turns.core()))
 }
 
 /// How many runs are handed to the workers at once, at most.

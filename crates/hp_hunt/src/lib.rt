@@ -5,8 +5,10 @@
 //! trace no event can go. It knows no words of a command line and no stream.
 #![tactic(auto)]
 
+mod answering;
 mod belonging;
 mod claims;
+mod comparing;
 mod condition;
 mod cutting;
 mod finding;
@@ -16,9 +18,12 @@ mod minimizing;
 mod numbers;
 mod watching;
 
-pub use condition::{AnswerWord, Condition, PoolCount};
+pub use condition::{
+    AnswerName, AnswerWord, CallChoice, Comparison, Condition, LinuxAnswer, PoolCount, Relation,
+    Sought, SoughtAnswer,
+};
 pub use cutting::Shrinking;
 pub use finding::{Found, Hunt, find};
 pub use meeting::meets;
 pub use minimizing::minimize;
-pub use watching::{Watch, are_met, see_all, watch_all};
+pub use watching::{Watch, Watches};

@@ -3,7 +3,7 @@ ghost use Rattle.std.specs.Prelude.{IfOk, MatchBool};
 ghost use Rattle.hp_hunt.specs.Conditions.{SomeRunMeets, SomeRunMisses};
 
 use crate::condition::Condition;
-use crate::watching::{are_met, see_all, watch_all};
+use crate::watching::Watches;
 use hp_base::{Answer, Config, Event};
 use hp_core::Core;
 use std::alloc::{AllocError, Global};
@@ -20,11 +20,11 @@ pub fn meets(
 {
     // The checker of borrows asks for a mention of the type that an outcome may hold.
     let _none: Option<Answer> = None;
-    let mut watches = watch_all(alloc, conditions)?;
+    let mut watches = Watches::new(alloc, conditions)?;
     let mut core = Core::new(alloc, config)?;
     for event in events {
         let outcome = core.step(*event)?;
-        see_all(&mut watches, event, &outcome, &core);
+        watches.see(event, &outcome, &core)?;
     }
-    Ok(are_met(watches.as_slice(), &core))
+    Ok(watches.are_met(&core))
 }

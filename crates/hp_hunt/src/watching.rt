@@ -1,51 +1,60 @@
 //! Watches: each looks for one condition, moment by moment.
-ghost use Rattle.std.specs.Prelude.{◌≡◌, ◌↔◌, true, false, List, [], ◌∷◌, IsTrue, IfOk};
+ghost use Rattle.std.specs.Prelude.{◌≡◌, ◌↔◌, ◌≤◌, ℕ, true, false, List, [], ◌∷◌, All, IsTrue, IfOk, OnOk, map, length};
 ghost use Rattle.hp_core.specs.State.{CoreState};
-ghost use Rattle.hp_hunt.specs.Conditions.{EndsWith, IsMetAt, IsStepOf, Meets, MeetsAll, is_begin, is_begun};
+ghost use Rattle.hp_hunt.specs.Conditions.{Finds, IsMetAt, IsSomeBlocked, Meets, MeetsAll, MeetsChoice};
+ghost use Rattle.hp_watch.specs.Calls.{AreCalls};
 ghost use Rattle.hp_watch.specs.Moments.{Moment, last_of};
-ghost use Rattle.hp_hunt.specs.Watching.{AllKnow, IsCounted, Knows};
+ghost use Rattle.hp_hunt.specs.Watching.{AllKnow, Knows, known_of, of_watch};
 ghost use Rattle.hp_hunt.specs.declared.condition.Condition.{Condition};
 
-use crate::condition::{AnswerWord, Condition, count_of, word_of};
+use crate::answering::is_answered;
+use crate::comparing::has_count;
+use crate::condition::{Condition, Sought};
 use hp_base::{Event, Task};
 use hp_core::{Core, Outcome};
-use hp_watch::{is_held_up, stands_at};
+use hp_watch::{Calls, is_held_up, stands_at};
 use std::alloc::{AllocError, Global};
 
-/// Whether the event asks for a call of the task.
-fn is_begin(event: &Event, task: Task) -> bool
-    ensures { result ≡ is_begin task event.now }
+/// Whether some task's next step is blocked by somebody.
+fn is_any_held_up(core: &Core) -> bool
+    ensures { IsTrue result ↔ IsSomeBlocked None core.now }
 {
-    match event {
-        Event::Begin(who, _) => who.number() == task.number(),
-        Event::Step(_, _) | Event::Kill(_) | Event::Resize(_) => false,
+    core.is_reached();
+    core.always();
+    let tasks = core.config().tasks;
+    for place in 0..tasks {
+        if is_held_up(core, Task::new(place + 1)) {
+            return true;
+        }
+    }
+    false
+}
+
+/// Whether the task's next step is blocked by somebody; that of any task where none is given.
+fn is_blocked(core: &Core, task: Option<Task>) -> bool
+    ensures { IsTrue result ↔ IsSomeBlocked task core.now }
+{
+    match task {
+        Some(one) => is_held_up(core, one),
+        None => is_any_held_up(core),
     }
 }
 
-/// Whether a call is in flight by it.
-fn is_begun(outcome: &Outcome) -> bool
-    ensures { result ≡ is_begun outcome.now }
+/// Whether what is sought is found at this moment. The calls are those before it.
+fn is_met_at(sought: Sought, calls: &Calls, event: &Event, outcome: &Outcome, core: &Core) -> bool
+    ensures { (before : List Moment) → AreCalls calls.now.tasks.items before
+        → (IsTrue result ↔ IsMetAt sought before (record { event = event.now; outcome = outcome.now; core = core.now })) }
 {
-    matches!(outcome, Outcome::Begun)
-}
-
-/// Whether the event is a step of the task's call.
-fn is_step(event: &Event, task: Task) -> bool
-    ensures { IsTrue result ↔ IsStepOf task event.now }
-{
-    match event {
-        Event::Step(who, _) => who.number() == task.number(),
-        Event::Begin(_, _) | Event::Kill(_) | Event::Resize(_) => false,
-    }
-}
-
-/// Whether a call ended with such an answer.
-fn ends_with(outcome: &Outcome, word: AnswerWord) -> bool
-    ensures { IsTrue result ↔ EndsWith word outcome.now }
-{
-    match outcome {
-        Outcome::Ended(answer) => word_of(*answer) == word,
-        _ => false,
+    match sought {
+        Sought::Answer(answer) => is_answered(answer, calls, event, outcome, core),
+        Sought::Blocked(task) => is_blocked(core, task),
+        Sought::Meet {
+            task,
+            phase,
+            other,
+            other_phase,
+        } => stands_at(core, task, phase) && stands_at(core, other, other_phase),
+        Sought::Final(_) => false,
     }
 }
 
@@ -53,50 +62,8 @@ fn ends_with(outcome: &Outcome, word: AnswerWord) -> bool
 #[derive(Clone, Copy, Debug)]
 pub struct Watch {
     condition: Condition,
-    // how many calls the condition's task has begun, up to one more than it asks for
-    begun: u64,
-    // whether it was met at a moment
+    // whether what it seeks was found at a moment
     seen: bool,
-}
-
-/// Whether the condition is met at this moment.
-fn is_met_at(
-    condition: Condition,
-    begun: u64,
-    event: &Event,
-    outcome: &Outcome,
-    core: &Core,
-) -> bool
-    ensures { (before : List Moment) → IsCounted condition begun before
-        → (IsTrue result ↔ IsMetAt condition before (record { event = event.now; outcome = outcome.now; core = core.now })) }
-{
-    match condition {
-        Condition::Answer { task, call, word } => {
-            begun == u64::from(call) && is_step(event, task) && ends_with(outcome, word)
-        }
-        Condition::Blocked { task } => is_held_up(core, task),
-        Condition::Meet {
-            task,
-            phase,
-            other,
-            other_phase,
-        } => stands_at(core, task, phase) && stands_at(core, other, other_phase),
-        Condition::Final { .. } => false,
-    }
-}
-
-/// How many calls have begun behind this moment, where the condition counts them.
-fn count_call(condition: Condition, begun: u64, event: &Event, outcome: &Outcome) -> u64
-    ensures { (before : List Moment) (core : CoreState) → IsCounted condition begun before
-        → IsCounted condition result (record { event = event.now; outcome = outcome.now; core = core } ∷ before) }
-{
-    match condition {
-        Condition::Answer { task, call, .. }
-            if begun <= u64::from(call) && is_begin(event, task) && is_begun(outcome) => {
-            begun + 1
-        }
-        _ => begun,
-    }
 }
 
 impl Watch {
@@ -107,83 +74,146 @@ impl Watch {
     {
         Watch {
             condition,
-            begun: 0,
             seen: false,
         }
     }
 
-    /// How many calls it has counted.
-    pub fn begun(&self) -> u64
-        ensures { result ≡ self.now.begun }
-    {
-        self.begun
-    }
-
-    /// Whether its condition was met at a moment.
+    /// Whether what it seeks was found at a moment.
     pub fn is_seen(&self) -> bool
         ensures { result ≡ self.now.seen }
     {
         self.seen
     }
 
-    /// One moment more: this event came, with this outcome, and led to that core.
-    fn see(&mut self, event: &Event, outcome: &Outcome, core: &Core)
+    /// One moment more: this event came, with this outcome, and led to that core. The calls are those before it.
+    fn see(&mut self, calls: &Calls, event: &Event, outcome: &Outcome, core: &Core)
         ensures condition { self.new.condition ≡ self.old.condition }
-        ensures knows { (before : List Moment) → Knows self.old before
+        ensures knows { (before : List Moment) → AreCalls calls.now.tasks.items before → Knows self.old before
             → Knows self.new (record { event = event.now; outcome = outcome.now; core = core.now } ∷ before) }
     {
-        let is_met = is_met_at(self.condition, self.begun, event, outcome, core);
+        let is_met = is_met_at(self.condition.sought, calls, event, outcome, core);
         self.seen = self.seen || is_met;
-        self.begun = count_call(self.condition, self.begun, event, outcome);
     }
 
-    /// Whether the condition is met by a run that ends here.
+    /// Whether what it seeks is found in a run that ends here.
+    fn is_found(&self, core: &Core) -> bool
+        ensures { (first : CoreState) (moments : List Moment) → core.now ≡ last_of first moments → Knows self.now moments
+            → (IsTrue result ↔ Finds first moments self.now.condition.sought) }
+    {
+        match self.condition.sought {
+            Sought::Final(comparison) => has_count(core, comparison),
+            Sought::Answer(_) | Sought::Blocked(_) | Sought::Meet { .. } => self.seen,
+        }
+    }
+
+    /// Whether its condition is met by a run that ends here.
     fn is_met(&self, core: &Core) -> bool
         ensures { (first : CoreState) (moments : List Moment) → core.now ≡ last_of first moments → Knows self.now moments
             → (IsTrue result ↔ Meets first moments self.now.condition) }
     {
-        match self.condition {
-            Condition::Final { count, number } => count_of(core, count) == number,
-            Condition::Answer { .. } | Condition::Blocked { .. } | Condition::Meet { .. } => {
-                self.seen
-            }
-        }
+        self.is_found(core) == self.condition.wanted
     }
 }
 
 /// A watch for each condition.
-pub fn watch_all(alloc: Global, conditions: &[Condition]) -> Result<Vec<Watch>, AllocError>
-    ensures { IfOk result (λ watches. AllKnow conditions.now watches.items []) }
+fn watch_each(alloc: Global, conditions: &[Condition]) -> Result<Vec<Watch>, AllocError>
+    ensures of { IfOk result (λ watches. map of_watch watches.items ≡ conditions.now) }
+    ensures each { IfOk result (λ watches. All (λ watch. Knows watch []) watches.items) }
 {
-    let mut watches = Vec::new(alloc);
+    let mut watches = Vec::with_capacity(alloc, conditions.len())?;
     for condition in conditions {
         watches.push(Watch::new(*condition))?;
     }
     Ok(watches)
 }
 
-/// One moment more, for all watches.
-#[inline(always)]
-pub fn see_all(watches: &mut Vec<Watch>, event: &Event, outcome: &Outcome, core: &Core)
-    ensures { (conditions : List Condition) (before : List Moment) → AllKnow conditions watches.old.items before
-        → AllKnow conditions watches.new.items (record { event = event.now; outcome = outcome.now; core = core.now } ∷ before) }
+/// One moment more, for each watch. The calls are those before it.
+fn see_each(watches: &mut [Watch], calls: &Calls, event: &Event, outcome: &Outcome, core: &Core)
+    ensures of { map of_watch watches.new ≡ map of_watch watches.old }
+    ensures each { (before : List Moment) → AreCalls calls.now.tasks.items before → All (λ watch. Knows watch before) watches.old
+        → All (λ watch. Knows watch (record { event = event.now; outcome = outcome.now; core = core.now } ∷ before)) watches.new }
 {
     for place in 0..watches.len() {
-        watches[place].see(event, outcome, core);
+        watches[place].see(calls, event, outcome, core);
     }
 }
 
-/// Whether all conditions are met by a run that ends here.
-pub fn are_met(watches: &[Watch], core: &Core) -> bool
-    ensures met { result ≡ true → (conditions : List Condition) (first : CoreState) (moments : List Moment)
-        → core.now ≡ last_of first moments → AllKnow conditions watches.now moments → MeetsAll conditions first moments }
-    ensures missed { result ≡ false → (conditions : List Condition) (first : CoreState) (moments : List Moment)
-        → core.now ≡ last_of first moments → AllKnow conditions watches.now moments → ¬ MeetsAll conditions first moments }
-{
-    for watch in watches {
-        if !watch.is_met(core) {
-            return false;
-        }
+/// Looks for conditions, moment by moment.
+#[derive(Debug, Drop)]
+pub struct Watches {
+    // the calls so far, which answers are asked of
+    calls: Calls,
+    // one for each condition
+    watches: Vec<Watch>,
+}
+
+impl Watches {
+    /// Before any event.
+    pub fn new(alloc: Global, conditions: &[Condition]) -> Result<Watches, AllocError>
+        ensures { IfOk result (λ watches. AllKnow conditions.now (known_of watches) []) }
+    {
+        Ok(Watches {
+            calls: Calls::new(alloc),
+            watches: watch_each(alloc, conditions)?,
+        })
     }
-    true
+
+    /// One for each condition.
+    pub fn watches(&self) -> &[Watch]
+        ensures { result.now ≡ self.now.watches.items }
+    {
+        self.watches.as_slice()
+    }
+
+    /// The calls so far.
+    pub fn calls(&self) -> &Calls
+        ensures { result.now ≡ self.now.calls }
+    {
+        &self.calls
+    }
+
+    /// One moment more: this event came, with this outcome, and led to that core.
+    #[inline(always)]
+    pub fn see(&mut self, event: &Event, outcome: &Outcome, core: &Core) -> Result<(), AllocError>
+        ensures { OnOk result ((conditions : List Condition) (before : List Moment) → AllKnow conditions (known_of self.old) before
+            → AllKnow conditions (known_of self.new) (record { event = event.now; outcome = outcome.now; core = core.now } ∷ before)) }
+    {
+        see_each(
+            self.watches.as_mut_slice(),
+            &self.calls,
+            event,
+            outcome,
+            core,
+        );
+        self.calls.see(event, outcome)
+    }
+
+    /// Whether one of the alternatives of that number is met by a run that ends here.
+    fn is_choice_met(&self, choice: u32, core: &Core) -> bool
+        ensures { (conditions : List Condition) (first : CoreState) (moments : List Moment)
+            → core.now ≡ last_of first moments → AllKnow conditions (known_of self.now) moments
+            → (IsTrue result ↔ MeetsChoice conditions first moments choice) }
+    {
+        for watch in &self.watches {
+            if watch.condition.choice == choice && watch.is_met(core) {
+                return true;
+            }
+        }
+        false
+    }
+
+    /// Whether all conditions are met by a run that ends here.
+    pub fn are_met(&self, core: &Core) -> bool
+        ensures met { result ≡ true → (conditions : List Condition) (first : CoreState) (moments : List Moment)
+            → core.now ≡ last_of first moments → AllKnow conditions (known_of self.now) moments → MeetsAll conditions first moments }
+        ensures missed { result ≡ false → (conditions : List Condition) (first : CoreState) (moments : List Moment)
+            → core.now ≡ last_of first moments → AllKnow conditions (known_of self.now) moments → ¬ MeetsAll conditions first moments }
+    {
+        for watch in &self.watches {
+            if !self.is_choice_met(watch.condition.choice, core) {
+                return false;
+            }
+        }
+        true
+    }
 }

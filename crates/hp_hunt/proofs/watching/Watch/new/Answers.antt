@@ -1,4 +1,4 @@
-use Rattle.hp_hunt.proofs.Watches.{fresh}
+use Rattle.hp_hunt.proofs.Watched.{fresh}
 use Rattle.hp_hunt.proofs.watching.Watch.new.Goals as goal
 
 pub returns-clause-knows : goal.returns-clause-knows

@@ -2,7 +2,7 @@
 use Rattle.std.proofs.Common.{◌≡◌, ap, refl}
 use Rattle.std.specs.Prelude.{Bool, ◌||◌}
 use Rattle.hp_watch.specs.Moments.{Moment}
-use Rattle.hp_hunt.proofs.Watches.{knows_more}
+use Rattle.hp_hunt.proofs.Watched.{knows_more}
 use Rattle.hp_hunt.proofs.watching.Watch.see.Goals as goal
 use Rattle.hp_hunt.proofs.watching.Watch.see.Goals.{then-self, else-self}
 
@@ -16,5 +16,4 @@ returns-clause-knows c =
       | then-self w ↦ (let so = ap (λ (b : Bool). b || met) w.if-self.true in cc)
       | else-self w ↦ (let so = ap (λ (b : Bool). b || met) w.if-self.false in cc)
     ] in
-    λ before knew. knows_more old _ m before met refl seen (c.is_met_at-is_met.ensures before knew.counted)
-    (c.count_call-self.ensures before c.args.core.now knew.counted) knew
+    λ before were knew. knows_more old _ m before met refl seen (c.is_met_at-is_met.ensures before were) knew
