@@ -2,17 +2,19 @@
 use Rattle.std.proofs.Common.{◌≡◌, ℕ, zero, suc, ◌+◌, ◌<◌, ◌≤◌, ◌⊎◌, refl, ap, sym, ◌∙◌, subst, inl, inr, arith, List, [], ◌∷◌, ◌++◌, length}
 use Rattle.std.proofs.Common.{length-append, take}
 use Rattle.std.proofs.lemmas.List.{get_or_append_left, get_or_push, take-append-le, take_all}
-use Rattle.std.specs.Prelude.{true, false, All, min, slice_index_or}
+use Rattle.std.specs.Prelude.{true, false, All, slice_index_or}
 use Rattle.std.proofs.lemmas.Bool.{cases_lt}
 use Rattle.hp_laws.proofs.Deciding.{never}
 use Rattle.hp_base.specs.declared.event.Event.{Event}
 use Rattle.hp_core.specs.State.{CoreState}
 use Rattle.hp_watch.specs.Moments.{Moment, Once, events_of}
 use Rattle.hp_layers.specs.Layers.{AreAllAfter, IsCovered, IsReached, IsShortest, NoneBefore, NoneMeets}
-use Rattle.hp_hunt.specs.Conditions.{IsMetAt, calls_begun}
-use Rattle.hp_hunt.specs.Watching.{AllKnow, IsCounted, Knows}
+use Rattle.hp_watch.proofs.Begun.{one_more_call}
+use Rattle.hp_watch.specs.Calls.{AreCalls}
+use Rattle.hp_watch.specs.declared.calls.TaskCalls.{TaskCalls}
+use Rattle.hp_hunt.specs.Conditions.{IsMetAt}
+use Rattle.hp_hunt.specs.Watching.{AllKnow, Known, Knows}
 use Rattle.hp_hunt.specs.declared.condition.Condition.{Condition}
-use Rattle.hp_hunt.specs.declared.condition.Condition.TheVariants as condition
 use Rattle.hp_hunt.specs.declared.watching.Watch.{Watch}
 use Rattle.hp_every.specs.declared.turn.Turn.{Turn}
 use Rattle.hp_every.specs.Schedules as schedules
@@ -92,40 +94,32 @@ Doubly A = (A → ⊥) → ⊥
 decided : {P : Type 0} → Doubly (P ⊎ (P → ⊥))
 decided k = k (inr (λ p. k (inl p)))
 
--- how many calls a watch of the condition has counted
-begun_of : Condition → List Moment → ℕ
-begun_of (condition.Answer t call w) moments = min (calls_begun t moments) (call + 1)
-begun_of (condition.Blocked t) moments = 0
-begun_of (condition.Meet t p u q) moments = 0
-begun_of (condition.Final count n) moments = 0
-
-counted : (c : Condition) (moments : List Moment) → IsCounted c (begun_of c moments) moments
-unfolding begun_of
-counted (condition.Answer t call w) moments = refl
-counted (condition.Blocked t) moments = tt
-counted (condition.Meet t p u q) moments = tt
-counted (condition.Final count n) moments = tt
-
 -- a watch that knows
-knowing : (c : Condition) (moments : List Moment) → Once (IsMetAt c) moments ⊎ (Once (IsMetAt c) moments → ⊥)
+knowing : (c : Condition) (moments : List Moment) → Once (IsMetAt c.sought) moments ⊎ (Once (IsMetAt c.sought) moments → ⊥)
     → (w : Watch) × (w.condition ≡ c) × Knows w moments
-knowing c moments (inl once) = (
-  record { condition = c; begun = begun_of c moments; seen = true },
-  refl,
-  record { counted = counted c moments; seen = (λ s. once, λ o. refl) },
-)
-knowing c moments (inr none) = (
-  record { condition = c; begun = begun_of c moments; seen = false },
-  refl,
-  record { counted = counted c moments; seen = (λ s. never s, λ o. absurd (none o)) },
-)
+knowing c moments (inl once) = (record { condition = c; seen = true }, refl, record { seen = (λ s. once, λ o. refl) })
+knowing c moments (inr none) =
+    (record { condition = c; seen = false }, refl, record { seen = (λ s. never s, λ o. absurd (none o)) })
 
-all_knowing : (conditions : List Condition) (moments : List Moment) → Doubly ((ws : List Watch) × AllKnow conditions ws moments)
-all_knowing [] moments k = k ([], record { of = refl; each = λ j d within. absurd (omega (arith, within)) })
+-- what is known of the calls
+tracking : (moments : List Moment) → (calls : List TaskCalls) × AreCalls calls moments
+tracking [] = ([], record { last = λ t. refl; begun = λ t. refl })
+tracking (m ∷ before) = one_more_call (tracking before).0 before m (tracking before).1
+
+all_knowing : (conditions : List Condition) (moments : List Moment) → Doubly ((k : Known) × AllKnow conditions k moments)
+all_knowing [] moments k =
+    let calls = tracking moments in
+    k (
+      record { calls = calls.0; watches = [] },
+      record { calls = calls.1; of = refl; each = λ j d within. absurd (omega (arith, within)) },
+    )
 all_knowing (c ∷ cs) moments k =
     all_knowing cs moments (λ rest. decided (λ d. (
     let one = knowing c moments d in
-    k (one.0 ∷ rest.0, record { of = λ i. one.1 i ∷ rest.1.of i; each = each one.0 rest.0 one.2 rest.1.each }))))
+    k (
+      record { calls = rest.0.calls; watches = one.0 ∷ rest.0.watches },
+      record { calls = rest.1.calls; of = λ i. one.1 i ∷ rest.1.of i; each = each one.0 rest.0.watches one.2 rest.1.each },
+    ))))
   where
     each : (w : Watch) (ws : List Watch) → Knows w moments → All (λ (v : Watch). Knows v moments) ws
         → All (λ (v : Watch). Knows v moments) (w ∷ ws)
@@ -133,16 +127,16 @@ all_knowing (c ∷ cs) moments k =
     each w ws one rest (suc j) d within = rest j d (omega (arith, within))
 
 -- a schedule as a search would keep it
-path_of : (a : Question) (f : CoreState) (ms : List Moment) (p : Place) → IsRun a f ms p → (ws : List Watch) → AllKnow a.conditions ws ms
+path_of : (a : Question) (f : CoreState) (ms : List Moment) (p : Place) → IsRun a f ms p → (known : Known) → AllKnow a.conditions known ms
     → MeetsHere (plan_for a.script) a.conditions f ms p ⊎ (MeetsHere (plan_for a.script) a.conditions f ms p → ⊥)
     → (s : PathState) × IsPath a s × (s.turns ≡ turns_of ms)
-path_of a f ms p run ws know (inl meets) = (
-  record { turns = turns_of ms; key = search_words ws p; met = true },
+path_of a f ms p run known know (inl meets) = (
+  record { turns = turns_of ms; key = search_words known p; met = true },
   record {
     first = f;
     moments = ms;
     last = p;
-    watches = ws;
+    known = known;
     run = run;
     made = refl;
     know = know;
@@ -151,13 +145,13 @@ path_of a f ms p run ws know (inl meets) = (
   },
   refl,
 )
-path_of a f ms p run ws know (inr none) = (
-  record { turns = turns_of ms; key = search_words ws p; met = false },
+path_of a f ms p run known know (inr none) = (
+  record { turns = turns_of ms; key = search_words known p; met = false },
   record {
     first = f;
     moments = ms;
     last = p;
-    watches = ws;
+    known = known;
     run = run;
     made = refl;
     know = know;
@@ -202,15 +196,15 @@ meets_as : (a : Question) (s : PathState) (x : IsPath a s) (y : HasTurns a s.tur
     → s.met ≡ true
 meets_as a s x y meets =
     let same = same_by_turns a s.turns (run_of a s x) y in
-    x.met.1 (meets_there a y.first x.first y.moments x.moments y.last x.last x.watches y.run x.run (turned_round x.last y.last same)
-    (know_by_turns a s.turns (run_of a s x) y x.watches x.know) x.know meets)
+    x.met.1 (meets_there a y.first x.first y.moments x.moments y.last x.last x.known y.run x.run (turned_round x.last y.last same)
+    (know_by_turns a s.turns (run_of a s x) y x.known x.know) x.know meets)
 
 met_as : (a : Question) (s : PathState) (x : IsPath a s) (y : HasTurns a s.turns) → s.met ≡ true
     → MeetsHere (plan_for a.script) a.conditions y.first y.moments y.last
 met_as a s x y met =
     let same = same_by_turns a s.turns (run_of a s x) y in
-    meets_there a x.first y.first x.moments y.moments x.last y.last x.watches x.run y.run same x.know
-    (know_by_turns a s.turns (run_of a s x) y x.watches x.know) (x.met.0 met)
+    meets_there a x.first y.first x.moments y.moments x.last y.last x.known x.run y.run same x.know
+    (know_by_turns a s.turns (run_of a s x) y x.known x.know) (x.met.0 met)
 
 -- where nothing that is reached in so many turns is met, no schedule of so many events meets the conditions
 no_schedule : (a : Question) (first : PathState) → IsPath a first → first.turns ≡ [] → (moments : List Moment)

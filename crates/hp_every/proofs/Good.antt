@@ -1,20 +1,24 @@
 -- Schedules that stand in the same place, and have seen the same, are as good as each other.
-use Rattle.std.proofs.Common.{◌≡◌, ℕ, refl, sym, ◌∙◌, subst, List, [], ◌∷◌, ◌++◌, length}
-use Rattle.std.specs.Prelude.{Bool, true, false, map}
+use Rattle.std.proofs.Common.{◌≡◌, ℕ, refl, ap, sym, ◌∙◌, subst, List, [], ◌∷◌, ◌++◌, length}
+use Rattle.std.specs.Prelude.{Bool, true, false, map, slice_index_or}
+use Rattle.std.specs.List.{flat_map}
+use Rattle.std.proofs.lemmas.List.{map-id}
 use Rattle.hp_core.specs.State.{CoreState, as_state}
 use Rattle.hp_watch.specs.Moments.{Moment}
 use Rattle.hp_key.specs.Numbers.{counted}
-use Rattle.hp_key.proofs.Tells.{Tells, cons_same, tells_at, tells_both, tells_counted, tells_flag, tells_wide}
+use Rattle.hp_key.proofs.Tells.{Own, Tells, cons_same, tells_at, tells_counted, tells_flag, tells_wide}
 use Rattle.hp_layers.specs.Layers.{IsAsGood}
 use Rattle.hp_machine.specs.State.{State}
 use Rattle.hp_sequential.specs.Renaming.{Alike}
-use Rattle.hp_hunt.specs.Watching.{AllKnow}
+use Rattle.hp_hunt.specs.Watching.{AllKnow, Known, of_watch}
 use Rattle.hp_hunt.specs.declared.watching.Watch.{Watch}
 use Rattle.hp_every.specs.declared.turn.Turn.{Turn}
 use Rattle.hp_every.specs.Places.{AreOne, IsPlaceOf, place_words}
 use Rattle.hp_every.specs.Schedules.{AnyTurn, Place, plan_for}
 use Rattle.hp_every.specs.Search.{AreAsGood, Question, GoesOn, HasTurns, IsPath, IsRun, PathState, search_words}
-use Rattle.hp_every.specs.Search.{watch_words}
+use Rattle.hp_every.specs.Search.{call_number, calls_words, watch_words}
+use Rattle.hp_watch.specs.declared.call_word.CallWord.{CallWord}
+use Rattle.hp_watch.specs.declared.call_word.CallWord.TheVariants as call
 use Rattle.hp_every.specs.Turns.{turn_of, turns_of}
 use Rattle.hp_every.proofs.Futures.{same_words}
 use Rattle.hp_every.proofs.Knowing.{SameMoment, all_know_more, all_know_on, all_know_too, all_same, as_many, meets_there, moment_twins}
@@ -31,32 +35,32 @@ one_flag false false on back = refl
 abbrev pub run_of : (a : Question) (s : PathState) → IsPath a s → HasTurns a s.turns
 run_of a s h = record { first = h.first; moments = h.moments; last = h.last; run = h.run; made = h.made }
 
--- watches that know one schedule know each of the same turns
-pub know_by_turns : (a : Question) (turns : List Turn) (x y : HasTurns a turns) (watches : List Watch) → AllKnow a.conditions watches x.moments
-    → AllKnow a.conditions watches y.moments
-know_by_turns a turns x y watches know =
+-- what is known of one schedule is known of each of the same turns
+pub know_by_turns : (a : Question) (turns : List Turn) (x y : HasTurns a turns) (known : Known) → AllKnow a.conditions known x.moments
+    → AllKnow a.conditions known y.moments
+know_by_turns a turns x y known know =
     let same = same_events a x.first y.first x.moments y.moments x.last y.last x.run y.run (x.made ∙ sym y.made) in
-    all_know_too a.conditions watches x.moments y.moments
+    all_know_too a.conditions known x.moments y.moments
     (all_same a x.first y.first x.moments y.moments x.last y.last x.run y.run same)
     (all_same a y.first x.first y.moments x.moments y.last x.last y.run x.run (sym same)) know
 
 pub same_by_turns : (a : Question) (turns : List Turn) (x y : HasTurns a turns) → Same x.last y.last
 same_by_turns a turns x y = by_turns a x.first y.first x.moments y.moments x.last y.last x.run y.run (x.made ∙ sym y.made)
 
--- two of the same place that the same watches have seen
-pub as_good_of : (a : Question) (s t : PathState) (x : IsPath a s) (y : IsPath a t) (watches : List Watch) → AllKnow a.conditions watches x.moments
-    → AllKnow a.conditions watches y.moments → Same x.last y.last → AreAsGood a s t
-as_good_of a s t x y watches here there same = record {
+-- two of the same place of which the same is known
+pub as_good_of : (a : Question) (s t : PathState) (x : IsPath a s) (y : IsPath a t) (known : Known) → AllKnow a.conditions known x.moments
+    → AllKnow a.conditions known y.moments → Same x.last y.last → AreAsGood a s t
+as_good_of a s t x y known here there same = record {
   here = run_of a s x;
   there = run_of a t y;
-  watches = watches;
+  known = known;
   knows_here = here;
   knows_there = there;
   alike = same.on;
   back = same.back;
   met = one_flag s.met t.met
-      (λ met. y.met.1 (meets_there a x.first y.first x.moments y.moments x.last y.last watches x.run y.run same here there (x.met.0 met)))
-      (λ met. x.met.1 (meets_there a y.first x.first y.moments x.moments y.last x.last watches y.run x.run (turned_round x.last y.last same)
+      (λ met. y.met.1 (meets_there a x.first y.first x.moments y.moments x.last y.last known x.run y.run same here there (x.met.0 met)))
+      (λ met. x.met.1 (meets_there a y.first x.first y.moments x.moments y.last x.last known y.run x.run (turned_round x.last y.last same)
       there here (y.met.0 met)));
 }
 
@@ -65,42 +69,81 @@ pub by_path : (a : Question) (s t : PathState) → IsPath a s → IsPath a t →
 by_path a s t x y e =
     let here : HasTurns a t.turns = subst (HasTurns a) e (run_of a s x) in
     let same = same_events a x.first y.first x.moments y.moments x.last y.last x.run y.run (x.made ∙ (e ∙ sym y.made)) in
-    as_good_of a s t x y y.watches
-    (all_know_too a.conditions y.watches y.moments x.moments
+    as_good_of a s t x y y.known
+    (all_know_too a.conditions y.known y.moments x.moments
     (all_same a y.first x.first y.moments x.moments y.last x.last y.run x.run (sym same))
     (all_same a x.first y.first x.moments y.moments x.last y.last x.run y.run same) y.know)
     y.know (by_events a x.first y.first x.moments y.moments x.last y.last x.run y.run same)
 
 -- ---- equal keys
 
--- what a watch has seen is told by its words
-seen_by : Watch → Bool × ℕ
-seen_by w = (w.seen, w.begun)
+-- what a watch has seen is told by its word
+seen_by : Watch → Bool
+seen_by w = w.seen
 
 tells_watch : Tells watch_words watch_words seen_by seen_by
 unfolding seen_by
-tells_watch = tells_both (tells_at (λ (w : Watch). w.seen) tells_flag) (tells_at (λ (w : Watch). w.begun) tells_wide)
+tells_watch = tells_at (λ (w : Watch). w.seen) tells_flag
 
-same_watches : (vs ws : List Watch) → map (λ (w : Watch). w.condition) vs ≡ map (λ (w : Watch). w.condition) ws → map seen_by vs ≡ map seen_by ws
-    → vs ≡ ws
+same_watches : (vs ws : List Watch) → map of_watch vs ≡ map of_watch ws → map seen_by vs ≡ map seen_by ws → vs ≡ ws
 unfolding seen_by
 same_watches [] [] c s = refl
 same_watches [] (w ∷ ws) c s = absurd (cc)
 same_watches (v ∷ vs) [] c s = absurd (cc)
 same_watches (v ∷ vs) (w ∷ ws) c s =
-    let x = cons_same v.condition w.condition (map (λ (u : Watch). u.condition) vs) (map (λ (u : Watch). u.condition) ws) c in
-    let y = cons_same {A = Bool × ℕ} (v.seen, v.begun) (w.seen, w.begun) (map seen_by vs) (map seen_by ws) s in
+    let x = cons_same v.condition w.condition (map of_watch vs) (map of_watch ws) c in
+    let y = cons_same v.seen w.seen (map seen_by vs) (map seen_by ws) s in
     let rest = same_watches vs ws x.1 y.1 in
-    λ i. record { condition = x.0 i; begun = (y.0 i).1; seen = (y.0 i).0 } ∷ rest i
+    λ i. record { condition = x.0 i; seen = y.0 i } ∷ rest i
 
--- so equal words are of the same watches and of one place
-words_tell : (a : Question) (vs ws : List Watch) (p q : Place) → map (λ (w : Watch). w.condition) vs ≡ a.conditions
-    → map (λ (w : Watch). w.condition) ws ≡ a.conditions → search_words vs p ≡ search_words ws q → (vs ≡ ws) × (place_words p ≡ place_words q)
-words_tell a vs ws p q c d e =
-    let long : length vs ≡ length ws = as_many a.conditions vs c ∙ sym (as_many a.conditions ws d) in
-    let front : counted watch_words vs ++ place_words p ≡ counted watch_words ws ++ place_words q = λ i. long i ∷ e i in
-    let both = (tells_counted tells_watch).tells vs ws (place_words p) (place_words q) front in
-    (same_watches vs ws (c ∙ sym d) both.0, both.1)
+-- which call it is is told by its number
+named : ℕ → CallWord
+named n = slice_index_or (call.Nothing ∷ call.Map ∷ call.MapNoReserve ∷ call.Unmap ∷ call.Load ∷ call.Store ∷ call.Alloc ∷ call.AllocKeep
+    ∷ call.Punch ∷ call.Truncate ∷ call.Exit ∷ []) n call.Nothing
+
+by_number : (w : CallWord) → named (call_number w) ≡ w
+unfolding named
+by_number call.Nothing = refl
+by_number call.Map = refl
+by_number call.MapNoReserve = refl
+by_number call.Unmap = refl
+by_number call.Load = refl
+by_number call.Store = refl
+by_number call.Alloc = refl
+by_number call.AllocKeep = refl
+by_number call.Punch = refl
+by_number call.Truncate = refl
+by_number call.Exit = refl
+
+tells_calls : Own calls_words
+tells_calls = record {
+  tells = λ c d ss ts e. (
+      let x = cons_same (call_number c.last) (call_number d.last) (c.begun ∷ ss) (d.begun ∷ ts) e in
+      let y = cons_same c.begun d.begun ss ts x.1 in
+      let last = sym (by_number c.last) ∙ (ap named x.0 ∙ by_number d.last) in
+      (λ i. record { last = last i; begun = y.0 i }, y.1));
+}
+
+-- two lists of which each tells its own are told by their words, where they are equally long
+tells_list : {A B : Type 0} {u : A → List ℕ} {f : A → B} → Tells u u f f → (xs ys : List A) (ss ts : List ℕ) → length xs ≡ length ys
+    → flat_map u xs ++ ss ≡ flat_map u ys ++ ts → (map f xs ≡ map f ys) × (ss ≡ ts)
+tells_list {u = u} tells xs ys ss ts long e =
+    let front : counted u xs ++ ss ≡ counted u ys ++ ts = λ i. long i ∷ e i in
+    (tells_counted tells).tells xs ys ss ts front
+
+-- so equal words are of the same knowledge and of one place
+words_tell : (a : Question) (v w : Known) (p q : Place) → map of_watch v.watches ≡ a.conditions → map of_watch w.watches ≡ a.conditions
+    → search_words v p ≡ search_words w q → (v ≡ w) × (place_words p ≡ place_words q)
+words_tell a v w p q c d e =
+    let rest = λ (k : Known) (x : Place). flat_map calls_words k.calls ++ (flat_map watch_words k.watches ++ place_words x) in
+    let count = tells_wide.tells (length v.calls) (length w.calls) (rest v p) (rest w q) e in
+    let calls = tells_list tells_calls v.calls w.calls (flat_map watch_words v.watches ++ place_words p)
+    (flat_map watch_words w.watches ++ place_words q) count.0 count.1 in
+    let long = as_many a.conditions v.watches c ∙ sym (as_many a.conditions w.watches d) in
+    let seen = tells_list tells_watch v.watches w.watches (place_words p) (place_words q) long calls.1 in
+    let watches = same_watches v.watches w.watches (c ∙ sym d) seen.0 in
+    let same : v.calls ≡ w.calls = sym (map-id v.calls) ∙ (calls.0 ∙ map-id w.calls) in
+    (λ i. record { calls = same i; watches = watches i }, seen.1)
 
 -- one place is the same place
 alike_one : (a : Question) (f : CoreState) (ms : List Moment) (p q : Place) → IsRun a f ms p → AreOne p q → Same p q
@@ -126,9 +169,9 @@ alike_one a f ms p q run h =
 
 pub by_key : (a : Question) (s t : PathState) → IsPath a s → IsPath a t → s.key ≡ t.key → AreAsGood a s t
 by_key a s t x y e =
-    let both = words_tell a x.watches y.watches x.last y.last x.know.of y.know.of (sym x.key ∙ (e ∙ y.key)) in
+    let both = words_tell a x.known y.known x.last y.last x.know.of y.know.of (sym x.key ∙ (e ∙ y.key)) in
     let one = same_words a.script x.last y.last (place_is a x.first x.moments x.last x.run) (place_is a y.first y.moments y.last y.run) both.1 in
-    as_good_of a s t x y x.watches x.know (subst (λ (ws : List Watch). AllKnow a.conditions ws y.moments) (sym both.0) y.know)
+    as_good_of a s t x y x.known x.know (subst (λ (ws : Known). AllKnow a.conditions ws y.moments) (sym both.0) y.know)
     (alike_one a x.first x.moments x.last y.last x.run one)
 
 -- ---- the same futures
@@ -142,10 +185,10 @@ onward a s t u x y =
     record {
       here = x.here;
       there = y.there;
-      watches = x.watches;
+      known = x.known;
       knows_here = x.knows_here;
-      knows_there = all_know_on a.conditions x.watches y.watches y.here.moments y.there.moments
-          (know_by_turns a t.turns x.there y.here x.watches x.knows_there) y.knows_here y.knows_there;
+      knows_there = all_know_on a.conditions x.known y.known y.here.moments y.there.moments
+          (know_by_turns a t.turns x.there y.here x.known x.knows_there) y.knows_here y.knows_there;
       alike = whole.on;
       back = whole.back;
       met = x.met ∙ y.met;
@@ -168,7 +211,7 @@ last_turn a f turns next (m ∷ ms) p run e =
     record { m = m; ms = ms; is = refl; made = last.0; last = last.1; split = split a f m ms p run }
 
 pub follows : (a : Question) (s t after : PathState) → AreAsGood a s t → GoesOn a s after → (u : PathState) × GoesOn a t u × AreAsGood a after u
-follows a s t after x goes = (u, record { next = goes.next; turns = refl; path = path }, as_good_of a after u z path z.watches z.know know same)
+follows a s t after x goes = (u, record { next = goes.next; turns = refl; path = path }, as_good_of a after u z path z.known z.know know same)
   where
     z : IsPath a after
     z = goes.path
@@ -215,27 +258,27 @@ follows a s t after x goes = (u, record { next = goes.next; turns = refl; path =
       cores = moment_twins a n l.m r z.last is_other is_place (turned_round z.last r same) refl l.split.core;
     }
 
-    know : AllKnow a.conditions z.watches (n ∷ x.there.moments)
-    know = all_know_more a.conditions z.watches x.watches l.ms x.there.moments l.m n on back
-        (know_by_turns a s.turns x.here here x.watches x.knows_here) x.knows_there
-        (subst (λ (ms : List Moment). AllKnow a.conditions z.watches ms) l.is z.know)
+    know : AllKnow a.conditions z.known (n ∷ x.there.moments)
+    know = all_know_more a.conditions z.known x.known l.ms x.there.moments l.m n on back
+        (know_by_turns a s.turns x.here here x.known x.knows_here) x.knows_there
+        (subst (λ (ms : List Moment). AllKnow a.conditions z.known ms) l.is z.know)
 
     u : PathState
-    u = record { turns = t.turns ++ goes.next ∷ []; key = search_words z.watches r; met = after.met }
+    u = record { turns = t.turns ++ goes.next ∷ []; key = search_words z.known r; met = after.met }
 
     path : IsPath a u
     path = record {
       first = x.there.first;
       moments = n ∷ x.there.moments;
       last = r;
-      watches = z.watches;
+      known = z.known;
       run = run;
       made = λ i. x.there.made i ++ l.last i ∷ [];
       know = know;
       key = refl;
       met = (
-        λ met. meets_there a z.first x.there.first z.moments (n ∷ x.there.moments) z.last r z.watches z.run run same z.know know (z.met.0 met),
-        λ meets. z.met.1 (meets_there a x.there.first z.first (n ∷ x.there.moments) z.moments r z.last z.watches run z.run
+        λ met. meets_there a z.first x.there.first z.moments (n ∷ x.there.moments) z.last r z.known z.run run same z.know know (z.met.0 met),
+        λ meets. z.met.1 (meets_there a x.there.first z.first (n ∷ x.there.moments) z.moments r z.last z.known run z.run
             (turned_round z.last r same) know z.know meets),
       );
     }

@@ -6,16 +6,17 @@ use Rattle.hp_base.specs.declared.event.Event.TheVariants.{Begin, Step, Kill, Re
 use Rattle.hp_machine.specs.declared.outcome.Outcome.{Outcome}
 use Rattle.hp_core.specs.State.{CoreState}
 use Rattle.hp_core.specs.Readers.{phase_of}
-use Rattle.hp_core.specs.Waiting.{WaitsFor}
 use Rattle.hp_text.specs.declared.script.Script.{Script}
 use Rattle.hp_watch.specs.Moments.{Moment, Once, last_of}
-use Rattle.hp_explore.specs.Schedule.{Plan}
 use Rattle.hp_explore.specs.declared.line.Finish.TheVariants.{Finished}
-use Rattle.hp_hunt.specs.Conditions.{EndsWith, IsMetAt, IsStepOf, Meets, SomeRunMisses, calls_begun, count_of, is_begin, is_begun}
+use Rattle.hp_watch.specs.Calls.{asked_word, calls_begun, is_begin, is_begun, last_call}
+use Rattle.hp_watch.specs.declared.call_word.CallWord.{CallWord}
+use Rattle.hp_hunt.specs.Conditions.{Finds, HasCount, IsEnd, IsMetAt, IsSomeBlocked, IsSoughtEnd, IsStepOf, Meets, MeetsChoice, SomeRunMisses}
 use Rattle.hp_hunt.specs.declared.condition.Condition.{Condition}
-use Rattle.hp_hunt.specs.declared.condition.Condition.TheVariants as condition
-use Rattle.hp_every.specs.Schedules.{Ends, IsLookedAt, IsShortest, NoScheduleMeets, Place, ScheduleMeets, plan_for}
-use Rattle.hp_every.proofs.Runs.{event_count}
+use Rattle.hp_hunt.specs.declared.condition.Sought.{Sought}
+use Rattle.hp_hunt.specs.declared.condition.Sought.TheVariants as sought
+use Rattle.hp_every.specs.Schedules.{IsShortest, NoScheduleMeets, ScheduleMeets, plan_for}
+use Rattle.hp_every.proofs.Runs.{event_count, wanted_too}
 use Rattle.hp_every.specs.Scheduled.{IsScheduled, asked, told}
 
 -- what one moment tells
@@ -59,37 +60,51 @@ step_back t (Step u granted) h = h
 step_back t (Kill u) h = h
 step_back t (Resize frames) h = h
 
--- so as many calls are begun,
-begun_same : (t : ℕ) (ms ns : List Moment) → told ms ≡ told ns → calls_begun t ms ≡ calls_begun t ns
-begun_same t [] [] e = refl
-begun_same t [] (n ∷ ns) e = absurd (cc)
-begun_same t (m ∷ ms) [] e = absurd (cc)
-begun_same t (m ∷ ms) (n ∷ ns) e =
+word_asked : (e : Event) → asked_word (asked e) ≡ asked_word e
+word_asked (Begin u op) = refl
+word_asked (Step u granted) = refl
+word_asked (Kill u) = refl
+word_asked (Resize frames) = refl
+
+-- so each task has begun as many calls, and the same last,
+tracked_same : (t : ℕ) (ms ns : List Moment) → told ms ≡ told ns → (last_call t ms ≡ last_call t ns) × (calls_begun t ms ≡ calls_begun t ns)
+tracked_same t [] [] e = (refl, refl)
+tracked_same t [] (n ∷ ns) e = absurd (cc)
+tracked_same t (m ∷ ms) [] e = absurd (cc)
+tracked_same t (m ∷ ms) (n ∷ ns) e =
     let h = same_first m n ms ns e in
     let asks : is_begin t m.event ≡ is_begin t n.event =
     sym (begin_asked t m.event) ∙ (ap (λ (x : Event). is_begin t x) h.event ∙ begin_asked t n.event) in
-    let before = begun_same t ms ns h.rest in
-    λ i. if asks i && is_begun (h.outcome i) then before i + 1 else before i
+    let word : asked_word m.event ≡ asked_word n.event = sym (word_asked m.event) ∙ (ap asked_word h.event ∙ word_asked n.event) in
+    let before = tracked_same t ms ns h.rest in (
+      λ i. if asks i && is_begun (h.outcome i) then word i else before.0 i,
+      λ i. if asks i && is_begun (h.outcome i) then before.1 i + 1 else before.1 i,
+    )
 
 -- the same is met at the first moment,
-met_same : (c : Condition) (m n : Moment) (ms ns : List Moment) → told (m ∷ ms) ≡ told (n ∷ ns) → IsMetAt c ms m → IsMetAt c ns n
-met_same (condition.Answer t call w) m n ms ns e (steps, ends, counts) =
-    let h = same_first m n ms ns e in (
-      step_back t n.event (subst (IsStepOf t) h.event (step_asked t m.event steps)),
-      subst (EndsWith w) h.outcome ends,
-      sym (begun_same t ms ns h.rest) ∙ counts,
-    )
-met_same (condition.Blocked t) m n ms ns e (holder, waits) =
-    (holder, subst (λ (c : CoreState). WaitsFor c t (Some holder)) (same_first m n ms ns e).core waits)
-met_same (condition.Meet t p u q) m n ms ns e (one, other) =
+met_same : (s : Sought) (m n : Moment) (ms ns : List Moment) → told (m ∷ ms) ≡ told (n ∷ ns) → IsMetAt s ms m → IsMetAt s ns n
+met_same (sought.Answer s) m n ms ns e is =
+    let h = same_first m n ms ns e in
+    let same = tracked_same is.task ms ns h.rest in
+    record {
+      task = is.task;
+      answer = is.answer;
+      step = step_back is.task n.event (subst (IsStepOf is.task) h.event (step_asked is.task m.event is.step));
+      end = subst (IsEnd is.answer) h.outcome is.end;
+      is = subst (λ (c : CoreState). IsSoughtEnd s (last_call is.task ns) (calls_begun is.task ns) is.task is.answer c) h.core
+          (subst (λ (k : ℕ). IsSoughtEnd s (last_call is.task ns) k is.task is.answer m.core) same.1
+          (subst (λ (w : CallWord). IsSoughtEnd s w (calls_begun is.task ms) is.task is.answer m.core) same.0 is.is));
+    }
+met_same (sought.Blocked t) m n ms ns e h = subst (λ (c : CoreState). IsSomeBlocked t c) (same_first m n ms ns e).core h
+met_same (sought.Meet t p u q) m n ms ns e (one, other) =
     let core = (same_first m n ms ns e).core in (
       subst (λ (c : CoreState). phase_of c t ≡ Some p) core one,
       subst (λ (c : CoreState). phase_of c u ≡ Some q) core other,
     )
-met_same (condition.Final count number) m n ms ns e h = h
+met_same (sought.Final c) m n ms ns e h = h
 
 -- and at any
-once_same : (c : Condition) (ms ns : List Moment) → told ms ≡ told ns → Once (IsMetAt c) ms → Once (IsMetAt c) ns
+once_same : (c : Sought) (ms ns : List Moment) → told ms ≡ told ns → Once (IsMetAt c) ms → Once (IsMetAt c) ns
 unfolding Once
 once_same c [] ns e h = absurd h
 once_same c (m ∷ ms) [] e h = absurd (cc)
@@ -102,19 +117,21 @@ last_same first [] (n ∷ ns) e = absurd (cc)
 last_same first (m ∷ ms) [] e = absurd (cc)
 last_same first (m ∷ ms) (n ∷ ns) e = (same_first m n ms ns e).core
 
-meets_same : (first : CoreState) (ms ns : List Moment) (c : Condition) → told ms ≡ told ns → Meets first ms c → Meets first ns c
-meets_same first ms ns (condition.Answer t call w) e h = once_same (condition.Answer t call w) ms ns e h
-meets_same first ms ns (condition.Blocked t) e h = once_same (condition.Blocked t) ms ns e h
-meets_same first ms ns (condition.Meet t p u q) e h = once_same (condition.Meet t p u q) ms ns e h
-meets_same first ms ns (condition.Final count number) e h =
-    subst (λ (core : CoreState). count_of count core ≡ number) (last_same first ms ns e) h
+finds_same : (first : CoreState) (ms ns : List Moment) (s : Sought) → told ms ≡ told ns → Finds first ms s → Finds first ns s
+finds_same first ms ns (sought.Answer s) e h = once_same (sought.Answer s) ms ns e h
+finds_same first ms ns (sought.Blocked t) e h = once_same (sought.Blocked t) ms ns e h
+finds_same first ms ns (sought.Meet t p u q) e h = once_same (sought.Meet t p u q) ms ns e h
+finds_same first ms ns (sought.Final c) e h = subst (λ (core : CoreState). HasCount c core) (last_same first ms ns e) h
 
--- where no turn may be made each condition is looked at
-pub looked_at : (plan : Plan) (p : Place) → Ends plan p → (c : Condition) → IsLookedAt plan p c
-looked_at plan p ends (condition.Answer t call w) = tt
-looked_at plan p ends (condition.Blocked t) = tt
-looked_at plan p ends (condition.Meet t phase u other) = tt
-looked_at plan p ends (condition.Final count number) = ends
+meets_same : (first : CoreState) (ms ns : List Moment) (c : Condition) → told ms ≡ told ns → Meets first ms c → Meets first ns c
+meets_same first ms ns c e h =
+    wanted_too c.wanted (Finds first ms c.sought) (Finds first ns c.sought) (finds_same first ms ns c.sought e)
+    (finds_same first ns ms c.sought (sym e)) h
+
+choice_same : (conditions : List Condition) (first : CoreState) (ms ns : List Moment) (choice : ℕ) → told ms ≡ told ns
+    → MeetsChoice conditions first ms choice → MeetsChoice conditions first ns choice
+choice_same conditions first ms ns choice e h =
+    record { condition = h.condition; given = h.given; same = h.same; meets = meets_same first ms ns h.condition e h.meets }
 
 -- what its schedule doesn't meet a finished run misses
 missed_by : (script : Script) (denials kills : ℕ) (conditions : List Condition) (events : List Event)
@@ -128,8 +145,8 @@ missed_by script denials kills conditions events scheduled none = record {
     first = scheduled.first;
     last = scheduled.last;
     schedule = scheduled.schedule;
-    looked_at = λ k d within. looked_at (plan_for script) scheduled.last (scheduled.ended refl) _;
-    meets = λ k d within. meets_same scheduled.first scheduled.made scheduled.moments _ (sym scheduled.same) (meets k d within);
+    looked_at = λ k d within final. scheduled.ended refl;
+    meets = λ k d within. choice_same conditions scheduled.first scheduled.made scheduled.moments _ (sym scheduled.same) (meets k d within);
   };
 }
 

@@ -1,4 +1,5 @@
 -- A schedule is a run of the machine.
+use Rattle.std.specs.Prelude.{Bool, true, false, MatchBool}
 use Rattle.std.proofs.Common.{◌≡◌, ◌∙◌, ℕ, ◌+◌, refl, ap, sym, subst, arith, List, [], ◌∷◌, length, length-append}
 use Rattle.hp_base.specs.declared.event.Event.{Event}
 use Rattle.hp_core.specs.State.{CoreState}
@@ -55,3 +56,8 @@ one_length script denials kills conditions events others h g =
     let low = h.shortest g.moments g.meets in
     let high = g.shortest h.moments h.meets in
     omega (arith, here, there, low, high)
+
+-- where the one is wanted, or isn't
+pub wanted_too : (wanted : Bool) (P Q : Type 0) → (P → Q) → (Q → P) → MatchBool wanted P (P → ⊥) → MatchBool wanted Q (Q → ⊥)
+wanted_too true P Q on back h = on h
+wanted_too false P Q on back h = λ q. h (back q)

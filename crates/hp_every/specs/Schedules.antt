@@ -1,6 +1,6 @@
 -- All schedules of a script, apart from any explorer: the turns that may be made in a place, and where they lead.
 use Rattle.std.specs.Prelude.{◌≡◌, ◌+◌, ◌-◌, ◌≤◌, ◌⊎◌, ℕ, true, false, List, [], ◌∷◌, Some, All}
-use Rattle.std.specs.Prelude.{length, replicate, slice_index, slice_set}
+use Rattle.std.specs.Prelude.{MatchBool, length, replicate, slice_index, slice_set}
 use Rattle.hp_base.specs.declared.event.Op.{Op}
 use Rattle.hp_base.specs.declared.event.Event.{Event}
 use Rattle.hp_base.specs.declared.event.Event.TheVariants.{Begin, Step, Kill}
@@ -15,7 +15,8 @@ use Rattle.hp_explore.specs.Schedule.{Plan, World, CanTurn, in_call, next_call, 
 use Rattle.hp_explore.specs.Explored.{is_done}
 use Rattle.hp_hunt.specs.Conditions.{MeetsAll}
 use Rattle.hp_hunt.specs.declared.condition.Condition.{Condition}
-use Rattle.hp_hunt.specs.declared.condition.Condition.TheVariants as condition
+use Rattle.hp_hunt.specs.declared.condition.Sought.{Sought}
+use Rattle.hp_hunt.specs.declared.condition.Sought.TheVariants as sought
 use Rattle.hp_every.specs.declared.turn.Turn.{Turn}
 use Rattle.hp_every.specs.declared.turn.Turn.TheVariants as turn
 
@@ -113,12 +114,20 @@ MayTurn plan p (turn.Killed t) = IsTask p t × (life_of p.core t ≡ Alive) × (
 abbrev pub Ends : Plan → Place → Type 0
 Ends plan p = (next : Turn) → MayTurn plan p next → ⊥
 
--- where a condition is looked at: one on moments in each place, one on a count where no turn may be made
+-- what is sought is a count at the end
+abbrev pub IsCount : Sought → Type 0
+IsCount (sought.Answer s) = ⊥
+IsCount (sought.Blocked t) = ⊥
+IsCount (sought.Meet t phase u other) = ⊥
+IsCount (sought.Final c) = Unit {0}
+
+-- the condition is one on a whole schedule: on a count at its end, or that something isn't found
+abbrev pub IsFinal : Condition → Type 0
+IsFinal c = MatchBool c.wanted (IsCount c.sought) (Unit {0})
+
+-- where a condition is looked at: one on a whole schedule where no turn may be made, any other in each place
 abbrev pub IsLookedAt : Plan → Place → Condition → Type 0
-IsLookedAt plan p (condition.Answer t call w) = Unit {0}
-IsLookedAt plan p (condition.Blocked t) = Unit {0}
-IsLookedAt plan p (condition.Meet t phase u other) = Unit {0}
-IsLookedAt plan p (condition.Final count n) = Ends plan p
+IsLookedAt plan p c = IsFinal c → Ends plan p
 
 -- these moments are those of a schedule that meets all conditions, in a place where each is looked at
 pub record ScheduleMeets (script : Script) (denials kills : ℕ) (conditions : List Condition) (moments : List Moment) : Type 0 where

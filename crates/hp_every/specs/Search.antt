@@ -1,16 +1,18 @@
 -- A search among all schedules: what it keeps of each, and what it says in the end.
-use Rattle.std.specs.Prelude.{◌≡◌, ◌↔◌, ℕ, Bool, true, List, [], ◌∷◌, ◌++◌, Contains, All}
+use Rattle.std.specs.Prelude.{◌≡◌, ◌↔◌, ℕ, Bool, true, List, [], ◌∷◌, ◌++◌, Contains, All, length}
 use Rattle.std.specs.List.{flat_map}
 use Rattle.hp_base.specs.Numbers.{bit}
 use Rattle.hp_core.specs.State.{CoreState}
 use Rattle.hp_text.specs.declared.script.Script.{Script}
 use Rattle.hp_watch.specs.Moments.{Moment}
 use Rattle.hp_key.specs.Numbers.{wide}
+use Rattle.hp_watch.specs.declared.call_word.CallWord.{CallWord}
+use Rattle.hp_watch.specs.declared.call_word.CallWord.TheVariants as call
+use Rattle.hp_watch.specs.declared.calls.TaskCalls.{TaskCalls}
 use Rattle.hp_explore.specs.Schedule.{Plan}
 use Rattle.hp_hunt.specs.Conditions.{MeetsAll}
-use Rattle.hp_hunt.specs.Watching.{AllKnow}
+use Rattle.hp_hunt.specs.Watching.{AllKnow, Known}
 use Rattle.hp_hunt.specs.declared.condition.Condition.{Condition}
-use Rattle.hp_hunt.specs.declared.condition.Condition.TheVariants as condition
 use Rattle.hp_hunt.specs.declared.watching.Watch.{Watch}
 use Rattle.hp_every.specs.declared.turn.Turn.{Turn}
 use Rattle.hp_every.specs.Places.{AreAlike, place_words}
@@ -41,13 +43,6 @@ pub record MayGoOn (a : Question) (turns : List Turn) (next : Turn) : Type 0 whe
   pub has : HasTurns a turns
   pub may : MayTurn (plan_for a.script) has.last next
 
--- the condition is looked at where no turn may be made
-abbrev pub IsFinal : Condition → Type 0
-IsFinal (condition.Answer t call w) = ⊥
-IsFinal (condition.Blocked t) = ⊥
-IsFinal (condition.Meet t phase u other) = ⊥
-IsFinal (condition.Final count n) = Unit {0}
-
 -- the schedule meets all conditions, and stands where each is looked at
 pub record MeetsHere (plan : Plan) (conditions : List Condition) (first : CoreState) (moments : List Moment) (last : Place) : Type 0 where
   pub looked_at : All (IsLookedAt plan last) conditions
@@ -59,24 +54,43 @@ pub record PathState : Type 0 where
   pub key : List ℕ
   pub met : Bool
 
--- a watch as words: whether it has seen its condition, and how many calls it has counted
+-- a watch as a word: whether it has seen what it seeks
 abbrev pub watch_words : Watch → List ℕ
-watch_words w = bit w.seen ∷ wide w.begun
+watch_words w = bit w.seen ∷ []
 
--- the words of a place, and of the watches that came there
-abbrev pub search_words : List Watch → Place → List ℕ
-search_words watches p = flat_map watch_words watches ++ place_words p
+-- which call it is
+abbrev pub call_number : CallWord → ℕ
+call_number call.Nothing = 0
+call_number call.Map = 1
+call_number call.MapNoReserve = 2
+call_number call.Unmap = 3
+call_number call.Load = 4
+call_number call.Store = 5
+call_number call.Alloc = 6
+call_number call.AllocKeep = 7
+call_number call.Punch = 8
+call_number call.Truncate = 9
+call_number call.Exit = 10
+
+-- the calls of a task as words: which it has begun last, and how many
+abbrev pub calls_words : TaskCalls → List ℕ
+calls_words c = call_number c.last ∷ c.begun ∷ []
+
+-- the words of a place, and of what was known on the way there
+abbrev pub search_words : Known → Place → List ℕ
+search_words known p =
+    wide (length known.calls) ++ (flat_map calls_words known.calls ++ (flat_map watch_words known.watches ++ place_words p))
 
 -- some schedule has these turns, and all that is kept of it is right
 pub record IsPath (a : Question) (s : PathState) : Type 0 where
   pub first : CoreState
   pub moments : List Moment
   pub last : Place
-  pub watches : List Watch
+  pub known : Known
   pub run : IsRun a first moments last
   pub made : turns_of moments ≡ s.turns
-  pub know : AllKnow a.conditions watches moments
-  pub key : s.key ≡ search_words watches last
+  pub know : AllKnow a.conditions known moments
+  pub key : s.key ≡ search_words known last
   pub met : s.met ≡ true ↔ MeetsHere (plan_for a.script) a.conditions first moments last
 
 -- the second schedule is the first with one turn more
@@ -85,14 +99,14 @@ pub record GoesOn (a : Question) (s t : PathState) : Type 0 where
   pub turns : t.turns ≡ s.turns ++ next ∷ []
   pub path : IsPath a t
 
--- The two stand in places that differ in the names of frames alone, whatever happened before, and the same watches have seen both. So
--- both have the same future.
+-- The two stand in places that differ in the names of frames alone, whatever happened before, and the same is known of both. So both have
+-- the same future.
 pub record AreAsGood (a : Question) (s t : PathState) : Type 0 where
   pub here : HasTurns a s.turns
   pub there : HasTurns a t.turns
-  pub watches : List Watch
-  pub knows_here : AllKnow a.conditions watches here.moments
-  pub knows_there : AllKnow a.conditions watches there.moments
+  pub known : Known
+  pub knows_here : AllKnow a.conditions known here.moments
+  pub knows_there : AllKnow a.conditions known there.moments
   pub alike : AreAlike here.last there.last
   pub back : AreAlike there.last here.last
   pub met : s.met ≡ t.met

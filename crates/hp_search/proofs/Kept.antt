@@ -2,7 +2,7 @@
 use Rattle.std.proofs.Common.{◌≡◌, ◌∙◌, ℕ, ◌+◌, ◌<◌, refl, ap, sym, subst, inl, inr, arith, List, [], ◌∷◌, ◌++◌, length, take}
 use Rattle.std.specs.Cmp.Lexicographic.{bytes_decides, nat_list_eq_equiv, pointwise}
 use Rattle.std.proofs.lemmas.Map.Views.{list_any-from_Contains}
-use Rattle.std.specs.Prelude.{◌↔◌, ◌⊎◌, ◌==◌, nat_eq, All, Bool, true, false, Contains, slice_index_or}
+use Rattle.std.specs.Prelude.{◌↔◌, ◌⊎◌, ◌==◌, nat_eq, All, Bool, None, true, false, Contains, slice_index_or}
 use Rattle.std.proofs.lemmas.List.{take_more}
 use Rattle.std.proofs.lemmas.List.Elements.{Contains-append_left, Contains-get_or, Contains-push, Contains-push_cases}
 use Rattle.std.proofs.lemmas.Bool.Decides.{nat_tests}
@@ -16,28 +16,21 @@ use Rattle.hp_layers.specs.declared.verdict.Verdict.{Verdict}
 use Rattle.hp_layers.specs.declared.verdict.Verdict.TheVariants.{Never, Met, Cut}
 use Rattle.hp_explore.specs.Schedule.{Plan}
 use Rattle.hp_hunt.specs.Conditions.{MeetsAll}
-use Rattle.hp_hunt.specs.Watching.{AllKnow}
+use Rattle.hp_hunt.specs.Watching.{AllKnow, known_of}
 use Rattle.hp_hunt.specs.declared.condition.Condition.{Condition}
-use Rattle.hp_hunt.specs.declared.condition.Condition.TheVariants as condition
+use Rattle.hp_hunt.specs.declared.condition.Sought.TheVariants.{Blocked}
 use Rattle.hp_every.specs.declared.turn.Turn.{Turn}
-use Rattle.hp_every.specs.Schedules.{Ends, IsLookedAt, MayTurn, Place, plan_for}
-use Rattle.hp_every.specs.Search.{AreBehind, GoesOn, HasTurns, IsFinal, IsPath, MayGoOn, MeetsHere, PathState, Question, search_words}
+use Rattle.hp_every.specs.Schedules.{Ends, IsFinal, MayTurn, Place, plan_for}
+use Rattle.hp_every.specs.Search.{AreBehind, GoesOn, HasTurns, IsPath, MayGoOn, MeetsHere, PathState, Question, search_words}
 use Rattle.hp_every.specs.Turns.{AreAllTurns}
 use Rattle.hp_every.proofs.Answers.{may_at, reached_path, turn_count}
 use Rattle.hp_every.proofs.Runs.{event_count}
-use Rattle.hp_every.proofs.Meets.{looked_at}
 use Rattle.hp_every.proofs.Sames.{last_core}
 use Rattle.hp_search.specs.declared.position.Position.{Position}
 use Rattle.hp_search.specs.Searching.{AreKeysOf, IsAt, IsTooMany, place_of}
 use Rattle.hp_search.proofs.Made.{has_at}
 
 -- ---- whether it meets all conditions
-
-final_ends : (plan : Plan) (p : Place) (c : Condition) → IsFinal c → IsLookedAt plan p c → Ends plan p
-final_ends plan p (condition.Answer t call w) bad h = absurd bad
-final_ends plan p (condition.Blocked t) bad h = absurd bad
-final_ends plan p (condition.Meet t phase u other) bad h = absurd bad
-final_ends plan p (condition.Final count number) is h = h
 
 unlisted : (plan : Plan) (p : Place) (turns : List Turn) → AreAllTurns plan p turns → (length turns == 0) ≡ true → Ends plan p
 unfolding AreAllTurns
@@ -53,23 +46,23 @@ pub ends_met : (plan : Plan) (conditions : List Condition) (first : CoreState) (
     → MeetsAll conditions first moments → (k : ℕ) → k < length conditions → ((d : Condition) → IsFinal (slice_index_or conditions k d))
     → AreAllTurns plan p turns → empty ≡ (length turns == 0) → (empty ≡ true ↔ MeetsHere plan conditions first moments p)
 ends_met plan conditions first moments p turns empty meets k within final all is = (
-  λ e. record { looked_at = λ j d l. looked_at plan p (unlisted plan p turns all (sym is ∙ e)) (slice_index_or conditions j d); meets = meets },
+  λ e. record { looked_at = λ j d l final. unlisted plan p turns all (sym is ∙ e); meets = meets },
   λ h. is ∙ none_listed plan p turns all
-      (let d : Condition = condition.Blocked 0 in final_ends plan p (slice_index_or conditions k d) (final d) (h.looked_at k d within)),
+      (let d : Condition = record { sought = Blocked None; wanted = true; choice = 0 } in h.looked_at k d within (final d)),
 )
 
 -- ---- paths
 
 pub path_is : (a : Question) (turns : List Turn) (events : List Event) (p : Position) (key : List ℕ) (met : Bool) → IsAt a turns events p
-    → key ≡ search_words p.watches.items (place_of p)
-    → ((first : CoreState) (moments : List Moment) → p.walk.core ≡ last_of first moments → AllKnow a.conditions p.watches.items moments
+    → key ≡ search_words (known_of p.watches) (place_of p)
+    → ((first : CoreState) (moments : List Moment) → p.walk.core ≡ last_of first moments → AllKnow a.conditions (known_of p.watches) moments
     → (met ≡ true ↔ MeetsHere (plan_for a.script) a.conditions first moments (place_of p)))
     → IsPath a (record { turns = turns; key = key; met = met })
 path_is a turns events p key met at is meets = record {
   first = at.first;
   moments = at.moments;
   last = place_of p;
-  watches = p.watches.items;
+  known = known_of p.watches;
   run = at.run;
   made = at.made;
   know = at.know;
@@ -152,7 +145,7 @@ keys_of a first path none n keys h = record {
         first = p.first;
         moments = p.moments;
         last = p.last;
-        watches = p.watches;
+        known = p.known;
         run = p.run;
         long = sym (turn_count p.moments) ∙ (ap (λ (xs : List Turn). length xs) p.made ∙ at.1);
         know = p.know;

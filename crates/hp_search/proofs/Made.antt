@@ -11,9 +11,9 @@ use Rattle.hp_core.specs.Runs.{IsOpening, Row}
 use Rattle.hp_core.specs.State.{CoreState}
 use Rattle.hp_watch.specs.Moments.{Moment}
 use Rattle.hp_explore.specs.Schedule.{Plan, World}
-use Rattle.hp_hunt.specs.Watching.{AllKnow}
+use Rattle.hp_hunt.specs.Watching.{AllKnow, known_of}
 use Rattle.hp_hunt.specs.declared.condition.Condition.{Condition}
-use Rattle.hp_hunt.specs.declared.watching.Watch.{Watch}
+use Rattle.hp_hunt.specs.declared.watching.Watches.{Watches}
 use Rattle.hp_every.specs.declared.turn.Turn.{Turn}
 use Rattle.hp_every.specs.declared.turn.Turn.TheVariants as turn
 use Rattle.hp_every.specs.Schedules.{IsTask, Leads, MayTurn, Place, first_place, plan_for}
@@ -42,11 +42,11 @@ at_more a turns events p q next event h made =
     }
 
 -- a turn that was chosen and played is made
-pub made_of : (plan : Plan) (old mid : Position) (turn : Turn) (event : Event) (outcome : Outcome) (walk : World) (watches : Vec Watch)
+pub made_of : (plan : Plan) (old mid : Position) (turn : Turn) (event : Event) (outcome : Outcome) (walk : World) (watches : Watches)
     → IsChosen plan (place_of old) turn event (place_of mid) → mid.walk.core ≡ old.walk.core → mid.watches ≡ old.watches
     → Row mid.walk.core event outcome walk.core → walk ≡ record mid.walk { core = walk.core }
-    → ((conditions : List Condition) (before : List Moment) → AllKnow conditions mid.watches.items before
-    → AllKnow conditions watches.items (record { event = event; outcome = outcome; core = walk.core } ∷ before))
+    → ((conditions : List Condition) (before : List Moment) → AllKnow conditions (known_of mid.watches) before
+    → AllKnow conditions (known_of watches) (record { event = event; outcome = outcome; core = walk.core } ∷ before))
     → IsMade plan old turn event (record { walk = walk; watches = watches; denials = mid.denials; kills = mid.kills })
 made_of plan old mid turn event outcome walk watches chosen core seen row stays know = record {
   outcome = outcome;
@@ -95,7 +95,7 @@ made_of plan old mid turn event outcome walk watches chosen core seen row stays 
   };
   same = chosen.same;
   know = λ conditions before knows. know conditions before
-      (subst (λ (ws : Vec Watch). AllKnow conditions ws.items before) (sym seen) knows);
+      (subst (λ (ws : Watches). AllKnow conditions (known_of ws) before) (sym seen) knows);
 }
   where
     made : walk.made ≡ mid.walk.made
@@ -199,7 +199,7 @@ listed_all plan p turns n all up t = (
 
 -- none is made
 pub at_first : (a : Question) (p : Position) → IsOpening a.script.config p.walk.core
-    → place_of p ≡ first_place a.script a.denials a.kills p.walk.core → AllKnow a.conditions p.watches.items [] → IsAt a [] [] p
+    → place_of p ≡ first_place a.script a.denials a.kills p.walk.core → AllKnow a.conditions (known_of p.watches) [] → IsAt a [] [] p
 unfolding Leads
 at_first a p opens place know = record {
   first = p.walk.core;

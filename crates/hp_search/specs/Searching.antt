@@ -10,9 +10,8 @@ use Rattle.hp_machine.specs.declared.outcome.Outcome.{Outcome}
 use Rattle.hp_core.specs.State.{CoreState}
 use Rattle.hp_watch.specs.Moments.{Moment, events_of}
 use Rattle.hp_explore.specs.Schedule.{Plan}
-use Rattle.hp_hunt.specs.Watching.{AllKnow}
+use Rattle.hp_hunt.specs.Watching.{AllKnow, Known, known_of}
 use Rattle.hp_hunt.specs.declared.condition.Condition.{Condition}
-use Rattle.hp_hunt.specs.declared.watching.Watch.{Watch}
 use Rattle.hp_layers.specs.declared.limits.Limits.{Limits}
 use Rattle.hp_every.specs.declared.turn.Turn.{Turn}
 use Rattle.hp_every.specs.Schedules.{AnyTurn, IsShortest, NoScheduleMeets, Place, ScheduleMeets, plan_for}
@@ -50,8 +49,8 @@ pub record IsMade (plan : Plan) (old : Position) (turn : Turn) (asks : Event) (n
   pub outcome : Outcome
   pub made : AnyTurn plan (place_of old) asks outcome (place_of new)
   pub same : turn_of asks ≡ turn
-  pub know : (conditions : List Condition) (before : List Moment) → AllKnow conditions old.watches.items before
-      → AllKnow conditions new.watches.items (record { event = asks; outcome = outcome; core = new.walk.core } ∷ before)
+  pub know : (conditions : List Condition) (before : List Moment) → AllKnow conditions (known_of old.watches) before
+      → AllKnow conditions (known_of new.watches) (record { event = asks; outcome = outcome; core = new.walk.core } ∷ before)
 
 -- these turns were made, by these events, and the watches have seen them
 pub record IsAt (a : Question) (turns : List Turn) (events : List Event) (p : Position) : Type 0 where
@@ -60,18 +59,18 @@ pub record IsAt (a : Question) (turns : List Turn) (events : List Event) (p : Po
   pub run : IsRun a first moments (place_of p)
   pub made : turns_of moments ≡ turns
   pub told : events_of moments ≡ events
-  pub know : AllKnow a.conditions p.watches.items moments
+  pub know : AllKnow a.conditions (known_of p.watches) moments
 
 -- the key is that of a place to which a schedule of so many turns leads, and of what was seen on the way
 pub record IsKeyOf (a : Question) (turns : ℕ) (key : List ℕ) : Type 0 where
   pub first : CoreState
   pub moments : List Moment
   pub last : Place
-  pub watches : List Watch
+  pub known : Known
   pub run : IsRun a first moments last
   pub long : length moments ≡ turns
-  pub know : AllKnow a.conditions watches moments
-  pub is : key ≡ search_words watches last
+  pub know : AllKnow a.conditions known moments
+  pub is : key ≡ search_words known last
 
 -- no two of these keys are equal, and each is one of so many turns
 pub record AreKeysOf (a : Question) (turns : ℕ) (keys : List (List ℕ)) : Type 0 where

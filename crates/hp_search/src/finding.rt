@@ -6,12 +6,12 @@ ghost use Rattle.hp_every.proofs.Good.{as_good, by_key};
 ghost use Rattle.hp_every.specs.Search.{AreAsGood, GoesOn, IsPath};
 ghost use Rattle.hp_search.specs.Searching.{IsAnswer, IsQuery, IsWithin, question, question_of};
 
-use crate::reachability::Reachability;
 use crate::following::follow;
 use crate::key::Key;
 use crate::path::{Path, path_at, paths_behind};
 use crate::position::Position;
 use crate::query::Query;
+use crate::reachability::Reachability;
 use hp_base::{Event, Op};
 use hp_explore::{Chances, Plan};
 use hp_hunt::Condition;

@@ -2,10 +2,11 @@
 ghost use Rattle.std.specs.Prelude.{◌≡◌, ◌↔◌, ◌++◌, ◌∷◌, ◌<◌, ◌≤◌, [], ℕ, true, false, List, All, IfOk, IsTrue, OnOk, length, slice_index_or};
 ghost use Rattle.std.specs.List.{flat_map};
 ghost use Rattle.hp_core.specs.State.{CoreState};
-ghost use Rattle.hp_hunt.specs.Watching.{AllKnow};
+ghost use Rattle.hp_hunt.specs.Watching.{AllKnow, known_of};
 ghost use Rattle.hp_key.specs.Numbers.{counted, wide};
 ghost use Rattle.hp_watch.specs.Moments.{Moment, last_of};
-ghost use Rattle.hp_every.specs.Search.{AreBehind, IsFinal, IsPath, MayGoOn, MeetsHere, search_words, watch_words};
+ghost use Rattle.hp_every.specs.Search.{AreBehind, IsPath, MayGoOn, MeetsHere, call_number, calls_words, search_words, watch_words};
+ghost use Rattle.hp_every.specs.Schedules.{IsFinal};
 ghost use Rattle.hp_search.specs.Searching.{IsAt, IsQuery, question_of, place_of};
 ghost use Rattle.hp_hunt.specs.declared.condition.Condition.{Condition};
 ghost use Rattle.hp_every.specs.declared.turn.Turn.{Turn};
@@ -17,8 +18,9 @@ use crate::position::Position;
 use crate::query::Query;
 use hp_base::{Event, Op};
 use hp_every::Turn;
-use hp_hunt::{Condition, Watch, are_met};
+use hp_hunt::{Condition, Sought, Watch};
 use hp_key::push_wide;
+use hp_watch::{CallWord, TaskCalls};
 use std::alloc::{AllocError, Global};
 use std::marker::Model;
 
@@ -38,13 +40,42 @@ impl Model for Path {
     ghost view = { λ p. record { turns = p.turns.items; key = p.key; met = p.met } };
 }
 
+/// Which call it is, as a word.
+fn call_number(word: CallWord) -> u32
+    ensures { result ≡ call_number word }
+{
+    match word {
+        CallWord::Nothing => 0,
+        CallWord::Map => 1,
+        CallWord::MapNoReserve => 2,
+        CallWord::Unmap => 3,
+        CallWord::Load => 4,
+        CallWord::Store => 5,
+        CallWord::Alloc => 6,
+        CallWord::AllocKeep => 7,
+        CallWord::Punch => 8,
+        CallWord::Truncate => 9,
+        CallWord::Exit => 10,
+    }
+}
+
+/// What is known of the calls of each task, as words.
+fn push_calls(words: &mut Vec<u32>, calls: &[TaskCalls]) -> Result<(), AllocError>
+    ensures { OnOk result (words.new.items ≡ words.old.items ++ flat_map calls_words calls.now) }
+{
+    for call in calls {
+        words.push(call_number(call.last))?;
+        words.push(call.begun)?;
+    }
+    Ok(())
+}
+
 /// What the watches have seen, as words.
 fn push_watches(words: &mut Vec<u32>, watches: &[Watch]) -> Result<(), AllocError>
     ensures { OnOk result (words.new.items ≡ words.old.items ++ flat_map watch_words watches.now) }
 {
     for watch in watches {
         words.push(u32::from(watch.is_seen()))?;
-        push_wide(words, watch.begun())?;
     }
     Ok(())
 }
@@ -66,10 +97,13 @@ const ROOM: usize = 256;
 
 /// The words of a place, and of what was seen on the way.
 fn search_key(alloc: Global, position: &Position) -> Result<Key, AllocError>
-    ensures { IfOk result (λ key. key ≡ search_words position.now.watches.items (place_of position.now)) }
+    ensures { IfOk result (λ key. key ≡ search_words (known_of position.now.watches) (place_of position.now)) }
 {
     let mut words = Vec::with_capacity(alloc, ROOM)?;
-    push_watches(&mut words, &position.watches)?;
+    let calls = position.watches.calls().tasks();
+    push_wide(&mut words, calls.len() as u64)?;
+    push_calls(&mut words, calls)?;
+    push_watches(&mut words, position.watches.watches())?;
     words.push(position.denials)?;
     words.push(position.kills)?;
     push_made(&mut words, position.walk.made())?;
@@ -78,11 +112,11 @@ fn search_key(alloc: Global, position: &Position) -> Result<Key, AllocError>
     Ok(Key { words })
 }
 
-/// Whether one of the conditions is looked at where no turn may be made.
+/// Whether the condition is one on a whole schedule.
 fn is_final(condition: &Condition) -> bool
     ensures { IsTrue result ↔ IsFinal condition.now }
 {
-    matches!(condition, Condition::Final { .. })
+    !condition.wanted || matches!(condition.sought, Sought::Final(_))
 }
 
 fn has_final(conditions: &[Condition]) -> bool
@@ -100,10 +134,10 @@ fn has_final(conditions: &[Condition]) -> bool
 /// Whether the schedule meets all conditions in the place where it stands.
 fn is_met(alloc: Global, query: Query, position: &Position) -> Result<bool, AllocError>
     ensures { IfOk result (λ met. (first : CoreState) (moments : List Moment) → position.now.walk.core ≡ last_of first moments
-        → AllKnow query.entry.conditions.now position.now.watches.items moments
+        → AllKnow query.entry.conditions.now (known_of position.now.watches) moments
         → (met ≡ true ↔ MeetsHere query.entry.plan.now query.entry.conditions.now first moments (place_of position.now))) }
 {
-    if !are_met(position.watches.as_slice(), position.walk.core()) {
+    if !position.watches.are_met(position.walk.core()) {
         return Ok(false);
     }
     if !has_final(query.conditions) {

@@ -2,7 +2,7 @@
 ghost use Rattle.std.specs.Prelude.{◌≡◌, ◌≤◌, ◌↔◌, ◌⊎◌, [], Contains, IfOk, IsTrue, OnOk};
 ghost use Rattle.hp_core.specs.Runs.{IsOpening};
 ghost use Rattle.hp_explore.specs.Explored.{is_done};
-ghost use Rattle.hp_hunt.specs.Watching.{AllKnow};
+ghost use Rattle.hp_hunt.specs.Watching.{AllKnow, known_of};
 ghost use Rattle.hp_every.specs.Schedules.{IsTask, MayTurn, first_place, world};
 ghost use Rattle.hp_every.specs.declared.turn.Turn.{Turn};
 ghost use Rattle.hp_every.specs.declared.turn.Turn.TheVariants as turn;
@@ -15,15 +15,15 @@ use hp_base::{Answer, Event, Op, Task};
 use hp_core::Outcome;
 use hp_every::Turn;
 use hp_explore::{Plan, Walk};
-use hp_hunt::{Watch, see_all, watch_all};
+use hp_hunt::Watches;
 use std::alloc::{AllocError, Global};
 
 /// Where a run of turns stands.
 #[derive(Drop)]
 pub(crate) struct Position {
     pub(crate) walk: Walk,
-    /// One for each condition.
-    pub(crate) watches: Vec<Watch>,
+    /// What has been seen of the conditions.
+    pub(crate) watches: Watches,
     /// So many steps may still be denied, and so many tasks killed.
     pub(crate) denials: u32,
     pub(crate) kills: u32,
@@ -44,11 +44,11 @@ impl Position {
     pub(crate) fn first(alloc: Global, query: Query) -> Result<Position, AllocError>
         ensures opening { IfOk result (λ p. IsOpening query.entry.script.now.config p.walk.core) }
         ensures place { IfOk result (λ p. place_of p ≡ first_place query.entry.script.now query.entry.denials query.entry.kills p.walk.core) }
-        ensures know { IfOk result (λ p. AllKnow query.entry.conditions.now p.watches.items []) }
+        ensures know { IfOk result (λ p. AllKnow query.entry.conditions.now (known_of p.watches) []) }
     {
         Ok(Position {
             walk: Walk::new(alloc, query.script, 0)?,
-            watches: watch_all(alloc, query.conditions)?,
+            watches: Watches::new(alloc, query.conditions)?,
             denials: query.denials,
             kills: query.kills,
         })
@@ -100,7 +100,7 @@ impl Position {
         let _none: (Option<Op>, Option<Outcome>, Option<Answer>) = (None, None, None);
         let event = self.choose(plan, turn);
         let outcome = self.walk.apply(&event, turn.task())?;
-        see_all(&mut self.watches, &event, &outcome, self.walk.core());
+        self.watches.see(&event, &outcome, self.walk.core())?;
         Ok(event)
     }
 

@@ -2,7 +2,7 @@
 //! finds no frame 7, and one that is denied its descriptor 4.
 use crate::{Budget, Reachability, find_every};
 use hp_base::Task;
-use hp_hunt::{AnswerWord, Condition};
+use hp_hunt::{AnswerName, AnswerWord, CallChoice, Condition, Sought, SoughtAnswer};
 use hp_layers::{Limits, Progress};
 use hp_text::{ReplayFault, read_any_script};
 use std::alloc::Global;
@@ -23,14 +23,23 @@ impl Progress for Told {
     }
 }
 
+/// How the first call of a task is to end.
+fn answered(number: u32, word: AnswerWord) -> Condition {
+    Condition {
+        sought: Sought::Answer(SoughtAnswer {
+            task: Some(Task::new(number)),
+            call: CallChoice::Number(1),
+            name: AnswerName::Word(word),
+            counted: None,
+        }),
+        wanted: true,
+        choice: number,
+    }
+}
+
 /// How the first calls of both tasks are to end.
 fn both(one: AnswerWord, other: AnswerWord) -> [Condition; 2] {
-    let answer = |number, word| Condition::Answer {
-        task: Task::new(number),
-        call: 1,
-        word,
-    };
-    [answer(1, one), answer(2, other)]
+    [answered(1, one), answered(2, other)]
 }
 
 /// What is said of all schedules: the number of events of a shortest; 1000 if there is none; 2000 if there are too many states.

@@ -2,7 +2,7 @@
 use Rattle.std.proofs.Common.{ℕ, ◌<◌}
 use Rattle.std.specs.Prelude.{slice_index_or}
 use Rattle.hp_hunt.specs.declared.condition.Condition.{Condition}
-use Rattle.hp_every.specs.Search.{IsFinal}
+use Rattle.hp_every.specs.Schedules.{IsFinal}
 use Rattle.hp_search.proofs.path.has_final.Given as goal
 
 abbrev pub invariant-loop-condition : goal.invariant-loop-condition
