@@ -149,7 +149,16 @@ pub(crate) const ANSWER: Choice = Choice {
     name: "answer",
     form: "T:K=WORD",
     takes: Takes::Texts,
-    help: "The K-th call of task T ends with the answer WORD",
+    help: "The K-th call of task T ends with the answer WORD; T and K may be *, K a call's name, WORD an errno or signal",
+    conflicts: &[],
+    needs: &[],
+};
+
+pub(crate) const AT: Choice = Choice {
+    name: "at",
+    form: "'T:K=WORD COUNT=N'",
+    takes: Takes::Texts,
+    help: "Such an answer comes, and behind it the count compares so with N",
     conflicts: &[],
     needs: &[],
 };
@@ -158,7 +167,7 @@ pub(crate) const BLOCKED: Choice = Choice {
     name: "blocked",
     form: "T",
     takes: Takes::Texts,
-    help: "At some moment the next step of task T is blocked",
+    help: "At some moment the next step of task T is blocked; T may be *",
     conflicts: &[],
     needs: &[],
 };
@@ -176,7 +185,7 @@ pub(crate) const FINAL: Choice = Choice {
     name: "final",
     form: "COUNT=N",
     takes: Takes::Texts,
-    help: "At the end no call is in flight, and the pool's count resv, free or used is N",
+    help: "At the end no call is in flight, and resv, free, used, reserved:F or pages:F is N; also <, <=, > and >=",
     conflicts: &[],
     needs: &[],
 };
@@ -186,6 +195,15 @@ pub(crate) const ANYWHERE: Choice = Choice {
     form: "",
     takes: Takes::Nothing,
     help: "With --final: calls may be in flight at the end",
+    conflicts: &["rest"],
+    needs: &[],
+};
+
+pub(crate) const REST: Choice = Choice {
+    name: "rest",
+    form: "",
+    takes: Takes::Nothing,
+    help: "At the end no call is in flight",
     conflicts: &[],
     needs: &[],
 };

@@ -92,8 +92,8 @@ pub(crate) const FIND: Row = Row {
     told: FINDS,
     operand: Operand::File,
     choices: &[
-        ANSWER, BLOCKED, MEET, FINAL, ANYWHERE, LIMIT, SEED, DENY, KILL, EVERY, DENIALS, KILLS,
-        STATES,
+        ANSWER, AT, BLOCKED, MEET, FINAL, REST, ANYWHERE, LIMIT, SEED, DENY, KILL, EVERY, DENIALS,
+        KILLS, STATES,
     ],
 };
 
@@ -103,7 +103,7 @@ pub(crate) const MINIMIZE: Row = Row {
     usage: "hugepool minimize CONDITION.. [FILE]",
     told: MINIMIZES,
     operand: Operand::File,
-    choices: &[ANSWER, BLOCKED, MEET, FINAL, ANYWHERE],
+    choices: &[ANSWER, AT, BLOCKED, MEET, FINAL, REST, ANYWHERE],
 };
 
 const FORMAT: Row = Row {

@@ -1,30 +1,42 @@
 //! The conditions of `find` and of `minimize`.
-use crate::choices::{ANSWER, ANYWHERE, BLOCKED, FINAL, MEET};
+use crate::choices::{ANSWER, ANYWHERE, AT, BLOCKED, FINAL, MEET, REST};
 use crate::commands::{Row, complaint, invalid};
 use crate::options::Choice;
+use crate::sought::{answer_at, answer_of, blocked_of, final_of, meeting_of};
 use clap::error::ErrorKind;
 use clap::{ArgMatches, Error};
-use hp_base::Task;
-use hp_core::Phase;
-use hp_format::phase_named;
-use hp_hunt::{AnswerWord, Condition, PoolCount};
+use hp_hunt::{Comparison, Condition, PoolCount, Relation, Sought};
 use std::alloc::Global;
 
 // The options that say conditions.
 #[derive(Clone, Copy)]
 enum Kind {
     Answer,
+    At,
     Blocked,
     Meet,
     Final,
 }
 
+const KINDS: [Kind; 5] = [
+    Kind::Answer,
+    Kind::At,
+    Kind::Blocked,
+    Kind::Meet,
+    Kind::Final,
+];
+
 // What the value of an option may be.
 const ANSWERS: &str =
-    "T is a task and K the number of its call, from 1; WORD is mapped, word, done, segv, beyond, noframe, \
-noquota, nomemory, interrupted, killed, badfile, badrange, notmapped or noaddress";
+    "T is a task or *, and K the number of its call, from 1, the name of a call (map, mapn, unmap, load, store, \
+alloc, allock, punch, trunc or exit) or *; WORD is mapped, word, done, segv, beyond, noframe, noquota, nomemory, \
+interrupted, killed, badfile, badrange, notmapped or noaddress, or what Linux says: SIGSEGV, SIGBUS, ENOSPC, ENOMEM \
+or EINTR";
 
-const TASKS: &str = "T is a task, from 1";
+const COUNTED_ANSWERS: &str =
+    "an answer as for --answer, a space, and a count as for --final: '1:2=noframe free>0'";
+
+const TASKS: &str = "T is a task, from 1, or *";
 
 const MEETINGS: &str =
     "T and U are tasks, and P and Q the phases of their calls, as a replay prints them after moved: \
@@ -32,12 +44,15 @@ start, look, want, locked, missing, changed, abort, taken, settle, committed, re
 leave, room, accounted, enter, head, unslot, extend, unmap, evict, delete, free, size, tail, \
 clear or drop";
 
-const COUNTS: &str = "COUNT is resv, free or used, and N a number";
+const COUNTS: &str =
+    "COUNT is resv, free or used, or of file F reserved:F or pages:F; then comes =, <, <=, > or >=, and N a number; \
+no count is below 0";
 
 impl Kind {
     fn choice(self) -> Choice {
         match self {
             Kind::Answer => ANSWER,
+            Kind::At => AT,
             Kind::Blocked => BLOCKED,
             Kind::Meet => MEET,
             Kind::Final => FINAL,
@@ -47,100 +62,59 @@ impl Kind {
     fn values(self) -> &'static str {
         match self {
             Kind::Answer => ANSWERS,
+            Kind::At => COUNTED_ANSWERS,
             Kind::Blocked => TASKS,
             Kind::Meet => MEETINGS,
             Kind::Final => COUNTS,
         }
     }
-}
 
-fn answer_named(word: &str) -> Option<AnswerWord> {
-    Some(match word {
-        "mapped" => AnswerWord::Mapped,
-        "word" => AnswerWord::Word,
-        "done" => AnswerWord::Done,
-        "segv" => AnswerWord::Segv,
-        "beyond" => AnswerWord::Beyond,
-        "noframe" => AnswerWord::NoFrame,
-        "noquota" => AnswerWord::NoQuota,
-        "nomemory" => AnswerWord::NoMemory,
-        "interrupted" => AnswerWord::Interrupted,
-        "killed" => AnswerWord::Killed,
-        "badfile" => AnswerWord::BadFile,
-        "badrange" => AnswerWord::BadRange,
-        "notmapped" => AnswerWord::NotMapped,
-        "noaddress" => AnswerWord::NoAddress,
-        _ => return None,
-    })
-}
-
-fn count_named(word: &str) -> Option<PoolCount> {
-    Some(match word {
-        "resv" => PoolCount::Resv,
-        "free" => PoolCount::Free,
-        "used" => PoolCount::Used,
-        _ => return None,
-    })
-}
-
-// Tasks and calls are counted from 1.
-fn counted(text: &str) -> Option<u32> {
-    let number: u32 = text.parse().ok()?;
-    if number == 0 {
-        return None;
+    fn sought(self, text: &str) -> Option<Sought> {
+        match self {
+            Kind::Answer => answer_of(text),
+            Kind::At => answer_at(text),
+            Kind::Blocked => blocked_of(text),
+            Kind::Meet => meeting_of(text),
+            Kind::Final => final_of(text),
+        }
     }
-    Some(number)
 }
 
-fn task_of(text: &str) -> Option<Task> {
-    let number = counted(text)?;
-    Some(Task::new(number))
-}
-
-fn answer_of(text: &str) -> Option<Condition> {
-    let (of, word) = text.split_once('=')?;
-    let (task, call) = of.split_once(':')?;
-    Some(Condition::Answer {
-        task: task_of(task)?,
-        call: counted(call)?,
-        word: answer_named(word)?,
+// One alternative. Behind `not` it is not to be found.
+fn condition_of(kind: Kind, text: &str, choice: u32) -> Option<Condition> {
+    let (wanted, form) = match text.split_once(' ') {
+        Some((first, rest)) if first == "not" => (false, rest),
+        _ => (true, text),
+    };
+    Some(Condition {
+        sought: kind.sought(form)?,
+        wanted,
+        choice,
     })
 }
 
-fn standing_of(text: &str) -> Option<(Task, Phase)> {
-    let (task, phase) = text.split_once(':')?;
-    Some((task_of(task)?, phase_named(phase.as_bytes())?))
-}
-
-fn meeting_of(text: &str) -> Option<Condition> {
-    let (one, other) = text.split_once(',')?;
-    let (task, phase) = standing_of(one)?;
-    let (other, other_phase) = standing_of(other)?;
-    Some(Condition::Meet {
-        task,
-        phase,
-        other,
-        other_phase,
-    })
-}
-
-fn final_of(text: &str) -> Option<Condition> {
-    let (count, number) = text.split_once('=')?;
-    Some(Condition::Final {
-        count: count_named(count)?,
-        number: number.parse().ok()?,
-    })
-}
-
-fn condition_of(kind: Kind, text: &str) -> Option<Condition> {
-    match kind {
-        Kind::Answer => answer_of(text),
-        Kind::Blocked => Some(Condition::Blocked {
-            task: task_of(text)?,
-        }),
-        Kind::Meet => meeting_of(text),
-        Kind::Final => final_of(text),
+// Adds the alternatives of one value of an option.
+fn push_choice(
+    alloc: Global,
+    row: &Row,
+    kind: Kind,
+    text: &str,
+    conditions: &mut Vec<Condition>,
+) -> Result<(), Error> {
+    let choice = conditions.len() as u32;
+    let mut left = Some(text);
+    while let Some(text_left) = left {
+        let (one, rest) = match text_left.split_once('|') {
+            Some((one, rest)) => (one, Some(rest)),
+            None => (text_left, None),
+        };
+        match condition_of(kind, one, choice) {
+            Some(condition) => conditions.push(condition)?,
+            None => return Err(invalid(alloc, row, &kind.choice(), kind.values(), text)?),
+        }
+        left = rest;
     }
+    Ok(())
 }
 
 // Adds the conditions that the option says.
@@ -151,46 +125,54 @@ fn push_conditions(
     kind: Kind,
     conditions: &mut Vec<Condition>,
 ) -> Result<(), Error> {
-    let choice = kind.choice();
-    let Some(texts) = given.get_strs(choice.name) else {
+    let Some(texts) = given.get_strs(kind.choice().name) else {
         return Ok(());
     };
     for text in texts {
-        match condition_of(kind, text) {
-            Some(condition) => conditions.push(condition)?,
-            None => return Err(invalid(alloc, row, &choice, kind.values(), text)?),
-        }
+        push_choice(alloc, row, kind, text, conditions)?;
     }
     Ok(())
 }
 
 // No call is in flight at the end.
-const AT_REST: Condition = Condition::Final {
-    count: PoolCount::Calls,
-    number: 0,
-};
+fn at_rest(choice: u32) -> Condition {
+    Condition {
+        sought: Sought::Final(Comparison {
+            count: PoolCount::Calls,
+            relation: Relation::Equal,
+            number: 0,
+        }),
+        wanted: true,
+        choice,
+    }
+}
 
-/// The conditions that are given to that command, of which there is one at least. A count at the end is one at rest, unless it is said
-/// to be one anywhere.
+// Whether calls in flight at the end are excluded: that is said, or counts at the end are asked for and nothing else is said.
+fn is_at_rest(given: &ArgMatches) -> bool {
+    given.get_flag(REST.name)
+        || given.get_strs(FINAL.name).is_some() && !given.get_flag(ANYWHERE.name)
+}
+
+/// The conditions that are given to that command, of which there is one at least.
 pub(crate) fn read_conditions(
     alloc: Global,
     given: &ArgMatches,
     row: &Row,
 ) -> Result<Vec<Condition>, Error> {
     let mut conditions = Vec::new(alloc);
-    for kind in [Kind::Answer, Kind::Blocked, Kind::Meet, Kind::Final] {
+    for kind in KINDS {
         push_conditions(alloc, given, row, kind, &mut conditions)?;
+    }
+    if is_at_rest(given) {
+        conditions.push(at_rest(conditions.len() as u32))?;
     }
     if conditions.is_empty() {
         return Err(complaint(
             alloc,
             row,
             ErrorKind::MissingRequiredArgument,
-            "at least one condition is needed: --answer, --blocked, --meet or --final",
+            "at least one condition is needed: --answer, --at, --blocked, --meet, --final or --rest",
         )?);
-    }
-    if given.get_strs(FINAL.name).is_some() && !given.get_flag(ANYWHERE.name) {
-        conditions.push(AT_REST)?;
     }
     Ok(conditions)
 }

@@ -11,6 +11,7 @@ mod conditions;
 mod options;
 mod reading;
 mod request;
+mod sought;
 mod texts;
 mod view;
 

@@ -79,22 +79,26 @@ pub(crate) const FINDS: &str =
     "Runs are explored in order, as hugepool explore does, until one meets all conditions. Its trace is printed as
 hugepool schedule prints it, and standard error names the run and its seed. If no run meets them, no trace is
 printed and the status is 1. At least one condition is needed. A condition on a task, call or phase that never
-occurs is not an error; no run meets it.
+occurs is not an error; no run meets it. A value may have alternatives, with | between them, of which one suffices;
+an alternative behind 'not ' is met where what it says isn't found in the whole run.
 With --every all schedules of the script are searched: every order in which the tasks can make their steps, with at
 most --denials failed allocations and --kills killed tasks at any place. The trace is one of the shortest. If no
 schedule meets the conditions, standard error says so and the status is 1: no seed and no number of runs finds one.
 If the limit of --states is reached first, standard error says in how many events none does, and the status is 3.
-After a fault the status is 2.
+Whole schedules are asked where --final, --rest or not is given, else their beginnings, too. After a fault the
+status is 2.
 A script has the calls that tasks make (hugepool explore --help). Some stand in examples/:
   hugepool find --answer 1:2=beyond examples/truncate-against-store.script > run.trace
   hugepool find --every --answer 1:1=done --answer 2:1=done examples/two-files-one-quota.script
+  hugepool find --every --at '*:*=SIGBUS resv>0' examples/balloon-against-guest.script
   hugepool find --blocked 2 --final resv=0 examples/truncate-against-store.script | hugepool explain";
 
 /// Of minimizing a trace.
 pub(crate) const MINIMIZES: &str =
     "Drops events and lowers their numbers as long as the trace still meets all conditions, until no event can be
 dropped and no number lowered by one. The pool and the numbers of tasks stay. The result depends on the input alone.
-If the trace doesn't meet all conditions, none is printed and the status is 1. At least one condition is needed.
+If the trace doesn't meet all conditions, none is printed and the status is 1. At least one condition is needed;
+hugepool find --help says what a value may be.
   hugepool find --answer 1:2=beyond examples/truncate-against-store.script > run.trace
   hugepool minimize --answer 1:2=beyond run.trace | hugepool replay";
 
