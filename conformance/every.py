@@ -4,9 +4,9 @@
 usage: every.py [--scripts N] [--seed N] [--states N] [--program PATH]
 
 A few scripts are fixed, and N are random. Each is searched with no denial and no kill, with one denial, and with one
-kill. Asked is for each answer that some call may give, some that none gives, each final count, each task that waits,
-some phases that meet, and some pairs of these. Both have to say the same: whether a schedule meets them, and in how many
-events. The trace has to be a schedule of the search, and no random run that `find` finds may be shorter. The status is 1
+kill. Asked is for each answer that some call may give, some that none gives, final counts, each task that waits, some
+phases that meet, counts at answers, pairs of these, alternatives, and what is not to be found. Both have to say the same:
+whether a schedule meets them, and in how many events. The trace has to be a schedule of the search, and no random run that `find` finds may be shorter. The status is 1
 after a difference.
 """
 import argparse
@@ -17,7 +17,7 @@ from collections import Counter
 from itertools import product
 
 from compare import tested
-from schedules import facts_of, opening, read_script, search, turns
+from schedules import asked_of, facts_of, holds, opening, read_script, search, turns
 
 # denials and kills
 BUDGETS = ((0, 0), (1, 0), (0, 1))
@@ -62,16 +62,27 @@ def random_script(dice):
     return "\n".join(lines) + "\n"
 
 
-def option(fact):
+def value(fact):
+    """A fact as the value of its option."""
     match fact:
         case "answer", task, call, word:
-            return ["--answer", f"{task}:{call}={word}"]
-        case "final", name, count:
-            return ["--final", f"{name}={count}"]
+            return f"{task}:{call}={word}"
+        case "at", answer, count:
+            return f"{value(answer)} {count}"
+        case "final", count:
+            return count
         case "blocked", task:
-            return ["--blocked", str(task)]
+            return str(task)
         case "meet", (task, phase), (other, second):
-            return ["--meet", f"{task}:{phase},{other}:{second}"]
+            return f"{task}:{phase},{other}:{second}"
+        case "not", other:
+            return f"not {value(other)}"
+
+
+def option(alternatives):
+    """Alternatives of one kind as an option."""
+    kind = alternatives[0][1][0] if alternatives[0][0] == "not" else alternatives[0][0]
+    return [f"--{kind}", "|".join(map(value, alternatives))]
 
 
 def find(program, text, words):
@@ -82,31 +93,31 @@ def find(program, text, words):
     return done.stdout.splitlines()[1:] if done.returncode == 0 else None
 
 
-def meets(script, budget, events, wanted):
+def meets(script, budget, events, question):
     """The events are turns of one schedule, which meets all of these."""
-    place, met = opening(script, *budget), set()
+    place, met, asked = opening(script, *budget), set(), asked_of(question)
     for event in events:
         there = [(following, answer) for line, following, answer in turns(script, place) if line == event]
         if len(there) != 1:
             return False
         ((place, answer),) = there
-        met |= facts_of(script, place, answer)
-    return wanted <= met | facts_of(script, place, ends=not list(turns(script, place)))
+        met |= facts_of(script, place, answer, asked=asked)
+    return holds(question, met | facts_of(script, place, ends=not list(turns(script, place))))
 
 
-def options(names, budget, value=None):
+def options(names, budget, chance=None):
     """An option for each of these that isn't 0."""
-    return [word for name, n in zip(names, budget) if n for word in (name, str(value or n))]
+    return [word for name, n in zip(names, budget) if n for word in (name, str(chance or n))]
 
 
-def difference(program, text, budget, wanted, least):
+def difference(program, text, budget, question, least):
     """What differs, or None."""
     script = read_script(text)
-    words = [word for fact in wanted for word in option(fact)]
+    words = [word for alternatives in question for word in option(alternatives)]
     events = find(program, text, ["--every", *options(("--denials", "--kills"), budget), *words])
     if (None if events is None else len(events)) != least:
         return f"the search has {least} events, the program {events and len(events)}"
-    if events is not None and not meets(script, budget, events, wanted):
+    if events is not None and not meets(script, budget, events, question):
         return "the trace is no schedule that meets them: " + "; ".join(events)
     run = find(program, text, ["--limit", "100", *options(("--deny", "--kill"), budget, 60), *words])
     spent = Counter(line.split()[0] for line in run or ())
@@ -115,20 +126,52 @@ def difference(program, text, budget, wanted, least):
     return None
 
 
-def questions(dice, script, least):
-    """Conditions, one by one and in pairs: of those that are met and of those that aren't."""
+def plain(dice, script, least):
+    """What is asked by itself: of what is met somewhere, and of what isn't."""
     calls = [(task + 1, call + 1) for task, queue in enumerate(script.queues) for call in range(len(queue) + 1)]
     answers = [("answer", *call, word) for call, word in product(calls, WORDS)]
     never = [it for it in answers if it not in least]
+    met = sorted((it for it in least if it[0] == "answer" and it not in answers), key=str)
     names = ("resv", "free") if script.quota is None else ("resv", "free", "used")
-    counts = [("final", name, n) for name in names for n in range(script.frames + 2)]
+    counts = [("final", f"{name}={n}") for name in names for n in range(script.frames + 2)]
+    signs = [("final", count(dice, script)) for _ in range(5)]
+    blocked = [("blocked", task) for task in (*range(1, script.tasks + 1), "*")]
     meeting = sorted(it for it in least if it[0] == "meet")
-    few = dice.sample(meeting, k=min(3, len(meeting)))
-    blocked = [("blocked", task + 1) for task in range(script.tasks)]
-    yield from ([it] for it in (*(it for it in answers if it in least), *dice.sample(never, k=6), *counts, *blocked, *few))
-    yield from (dice.sample([it for it in (*answers, *counts, *blocked, *few) if it in least], k=2) for _ in range(5))
+    yield from (it for it in answers if it in least)
+    yield from dice.sample(never, k=6)
+    yield from (*some(dice, met, 6), *counts, *signs, *blocked, *some(dice, meeting, 3))
+
+
+def count(dice, script):
+    """A count and how it compares."""
+    name = dice.choice(("resv", "free", "used", f"reserved:{dice.randrange(script.files)}", f"pages:{dice.randrange(script.files)}"))
+    # (no count is below 0)
+    return f"{name}{dice.choice(('=', '<=', '>', '>='))}{dice.randrange(script.frames + 2)}"
+
+
+def some(dice, those, most):
+    return dice.sample(those, k=min(most, len(those)))
+
+
+def questions(dice, script, least):
+    """Conditions: one by one, counts at answers, two of them, alternatives, and what is not to be found."""
+    ones = list(plain(dice, script, least))
+    met = sorted((it for it in ones if it in least), key=str)
+    answers = sorted((it for it in least if it[0] == "answer"), key=str)
+    counted = [("at", it, count(dice, script)) for it in some(dice, answers, 5)]
+    yield from ([(it,)] for it in (*ones, *counted))
+    yield from ([(it,) for it in some(dice, met, 2)] for _ in range(5))
+    yield from ([tuple(some(dice, [it for it in ones if it[0] == "answer"], 2))] for _ in range(2))
+    yield from ([(("not", it),)] for it in some(dice, met, 3))
+    yield from ([(("not", it),), (other,)] for it, other in zip(some(dice, met, 3), some(dice, met, 3)))
     # (a denied delete: the store succeeded, and its index stays reserved)
-    yield [("answer", 1, 2, "done"), ("final", "resv", script.frames - 1)]
+    yield [(("answer", 1, 2, "done"),), (("final", f"resv={script.frames - 1}"),)]
+
+
+def kind_of(question):
+    if len(question) > 1:
+        return "two"
+    return "one of two" if len(question[0]) > 1 else question[0][0][0]
 
 
 def compare(program, text, dice, most, asked):
@@ -141,12 +184,12 @@ def compare(program, text, dice, most, asked):
             continue
         asked["states"] += states
         for question in questions(dice, script, least):
-            wanted = frozenset(question)
-            found, _ = (least, 0) if len(wanted) == 1 else search(script, budget, 100 * most, wanted)
-            events = found.get(*wanted) if len(wanted) == 1 else found.get(wanted)
-            asked[f"{'two' if len(wanted) > 1 else question[0][0]}, {'never' if events is None else 'met'}"] += 1
-            if what := difference(program, text, budget, wanted, events):
-                yield f"denials and kills {budget}, {' '.join(word for it in wanted for word in option(it))}: {what}"
+            ((first, *_), *_) = question
+            alone = kind_of(question) in ("answer", "final", "blocked", "meet")
+            events = least.get(first) if alone else search(script, budget, 100 * most, question)[0].get(None)
+            asked[f"{kind_of(question)}, {'never' if events is None else 'met'}"] += 1
+            if what := difference(program, text, budget, question, events):
+                yield f"denials and kills {budget}, {' '.join(word for it in question for word in option(it))}: {what}"
 
 
 def main():

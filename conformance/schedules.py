@@ -4,6 +4,7 @@ Written from docs/MACHINE.md (sections 2 and 3) and docs/EXPLORING.md; every.py 
 no numbers here, and pages no words, since no condition names one: an entry is a virtual page, and the phase has the hand.
 """
 from collections import namedtuple
+from itertools import product
 
 LIMIT, SPACE = 4096, 16384
 ALIVE, KILLED, DEAD = range(3)
@@ -329,7 +330,7 @@ def may_begin(script, place, task):
 
 
 def turns(script, frozen):
-    """Each turn that may be made there: its line, where it leads, and the answer (task, call, word) that it gives."""
+    """Each turn that may be made there: its line, where it leads, and the answer (task, call, its name, word) that it gives."""
     here = Place(frozen)
     for task in range(script.tasks):
         busy = here.call[task] is not None
@@ -357,7 +358,7 @@ def steps(script, frozen, task):
     for grant in (True, False) if frozen[0][3] else (True,):
         place = Place(frozen)
         after = row(script, place, task, grant)
-        answer = None if isinstance(after, Call) else (task + 1, place.begun[task], after)
+        answer = None if isinstance(after, Call) else (task + 1, place.begun[task], place.call[task].words[0], after)
         place.call[task] = None if answer else after
         if place.frozen() != granted:
             granted = granted or place.frozen()
@@ -365,18 +366,72 @@ def steps(script, frozen, task):
             yield f"{'step' if grant else 'deny'} {task + 1}", place.frozen(), answer
 
 
-def facts_of(script, frozen, answer=None, ends=False):
-    """What holds: the answer that came, tasks that wait, phases that meet, and counts where no turn may be made."""
+def linux_of(name, word):
+    """What Linux tells a program in place of the answer, where it has a name here."""
+    short, faults = word in ("noframe", "noquota"), name in TOUCHES
+    if word == "noaddress" or word == "nomemory" and not faults or short and name in ("map", "mapn"):
+        return "ENOMEM"
+    if short and name in ALLOCS:
+        return "ENOSPC"
+    if faults and (short or word == "beyond"):
+        return "SIGBUS"
+    return {"segv": "SIGSEGV", "interrupted": "EINTR"}.get(word)
+
+
+def counts_of(script, place):
+    """Each count by its name."""
+    yield from ((name, getattr(place, name)) for name in ("resv", "free", "used"))
+    for file in range(script.files):
+        yield f"reserved:{file}", place.reserved[file].bit_count()
+        yield f"pages:{file}", place.pages[file].bit_count()
+
+
+def comparisons(script, place):
+    """What is so of the counts."""
+    for name, count in counts_of(script, place):
+        for n in range(script.frames + 2):
+            signs = (("=", count == n), ("<", count < n), ("<=", count <= n), (">", count > n), (">=", count >= n))
+            yield from (f"{name}{sign}{n}" for sign, holds in signs if holds)
+
+
+def answers_of(task, number, name, word):
+    """The ways to ask for an answer."""
+    words = [it for it in (word, linux_of(name, word)) if it]
+    return {("answer", *it) for it in product((task, "*"), (number, name, "*"), words)}
+
+
+def facts_of(script, frozen, answer=None, ends=False, asked=()):
+    """What holds: the answer that came, tasks that wait, phases that meet, counts where no turn may be made, and asked ones at an answer."""
     place = Place(frozen)
     phases = [(task + 1, call.phase) for task, call in enumerate(place.call) if call]
-    facts = {("answer", *answer)} if answer else set()
-    facts |= {("blocked", task) for task, _ in phases if holder(script, place, task - 1) is not None}
+    facts = answers_of(*answer) if answer else set()
+    if counted := [it for it in asked if it[0] == "at" and it[1] in facts]:
+        there = set(comparisons(script, place))
+        facts |= {it for it in counted if it[2] in there}
+    facts |= {("blocked", it) for task, _ in phases if holder(script, place, task - 1) is not None for it in (task, "*")}
     facts |= {("meet", one, other) for one in phases for other in phases if one[0] < other[0]}
-    return facts | {("final", name, getattr(place, name)) for name in ("resv", "free", "used") if ends}
+    return facts | {("final", it) for it in comparisons(script, place) if ends}
 
 
-def search(script, budget, most, wanted=frozenset()):
-    """The fewest events to each condition by itself, and to all wanted; None beyond so many states (place, those met)."""
+def is_whole(fact):
+    """It is asked of whole schedules."""
+    return fact[0] in ("not", "final")
+
+
+def holds(question, met):
+    """Of each of the alternatives one holds."""
+    return all(any((it[1] not in met) if it[0] == "not" else it in met for it in alternatives) for alternatives in question)
+
+
+def asked_of(question):
+    """What has to be watched for."""
+    return frozenset(it[1] if it[0] == "not" else it for alternatives in question for it in alternatives)
+
+
+def search(script, budget, most, question=()):
+    """The fewest events to each fact by itself, and to all that is asked; None beyond so many states (place, those met)."""
+    asked = asked_of(question)
+    whole = any(is_whole(it) for alternatives in question for it in alternatives)
     first = (opening(script, *budget), frozenset())
     seen, layer, depth, least = {first}, [first], 0, {}
     while layer and len(seen) <= most:
@@ -384,13 +439,15 @@ def search(script, budget, most, wanted=frozenset()):
         for place, met in layer:
             following = list(turns(script, place))
             ends = set() if following else facts_of(script, place, ends=True)
-            for fact in (*ends, *([wanted] if wanted and met | ends >= wanted else ())):
+            for fact in ends:
                 least.setdefault(fact, depth)
+            if question and not (whole and following) and holds(question, met | ends):
+                least.setdefault(None, depth)
             for _, there, answer in following:
-                facts = facts_of(script, there, answer)
+                facts = facts_of(script, there, answer, asked=asked)
                 for fact in facts:
                     least.setdefault(fact, depth + 1)
-                state = (there, met | wanted & facts)
+                state = (there, met | asked & facts)
                 if state not in seen:
                     seen.add(state)
                     after.append(state)
