@@ -115,9 +115,10 @@ static void texts(void)
         assert(all[at]((const uint8_t *)trace + 13, 10, &none, 0, &needed, &line) == HUGEPOOL_BAD_HEADER && line == 1);
     }
     assert(hugepool_check((const uint8_t *)trace, sizeof trace - 1, &events, &line) == HUGEPOOL_OK && events == 2);
+    static const char wrong[] = "stop is not an event: did you mean step? \"stop 1\"";
     uint8_t why[80];
     assert(hugepool_reason((const uint8_t *)bad, sizeof bad - 1, 3, why, sizeof why, &needed) == HUGEPOOL_OK);
-    assert(memcmp(why, "stop is not an event: \"stop 1\"", needed) == 0);
+    assert(needed == sizeof wrong - 1 && memcmp(why, wrong, needed) == 0);
     assert(hugepool_reason((const uint8_t *)bad, sizeof bad - 1, 3, why, needed - 1, &again) == HUGEPOOL_TOO_SMALL && again == needed);
     assert(hugepool_reason((const uint8_t *)bad, sizeof bad - 1, 9, why, sizeof why, &needed) == HUGEPOOL_NO_SUCH);
 }
