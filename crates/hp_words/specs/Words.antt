@@ -1,5 +1,5 @@
 -- Configs, events and outcomes as numbers: those of the header hugepool.h.
-use Rattle.std.specs.Prelude.{◌≡◌, ◌⊎◌, ℕ, ◌==◌, true, false, Bool, Option, Some, None, if◌then◌else◌}
+use Rattle.std.specs.Prelude.{◌≡◌, ◌⊎◌, ℕ, ◌-◌, ◌&&◌, ◌==◌, nat_le, true, false, Bool, Option, Some, None, if◌then◌else◌, slice_index_or}
 use Rattle.std.specs.Option.{option_map}
 use Rattle.hp_base.specs.Text.{Sizes}
 use Rattle.hp_base.specs.declared.event.Op.{Op}
@@ -14,7 +14,9 @@ use Rattle.hp_machine.specs.declared.outcome.Outcome.{Outcome}
 use Rattle.hp_machine.specs.declared.outcome.Outcome.TheVariants as outcome
 use Rattle.hp_machine.specs.declared.outcome.Refusal.{Refusal}
 use Rattle.hp_machine.specs.declared.outcome.Refusal.TheVariants as refusal
-use Rattle.hp_phases.specs.Phases.{phase_number}
+use Rattle.hp_machine.specs.declared.phase.Phase.{Phase}
+use Rattle.hp_machine.specs.declared.phase.Phase.TheVariants as phase
+use Rattle.hp_phases.specs.Phases.{all_phases, phase_number}
 use Rattle.hp_words.specs.declared.config_words.ConfigWords.{ConfigWords}
 use Rattle.hp_words.specs.declared.event_words.EventWords.{EventWords}
 use Rattle.hp_words.specs.declared.outcome_words.OutcomeWords.{OutcomeWords}
@@ -138,3 +140,47 @@ outcome_words (outcome.Refused r) = record (no_outcome 6) { refusal = refusal_nu
 -- numbers of an outcome of which nothing came: a step that is blocked, or an event that is refused
 abbrev pub IsHeldBack : OutcomeWords → Type 0
 IsHeldBack o = (o.kind ≡ 2) ⊎ (o.kind ≡ 6)
+
+-- the phase of that number
+abbrev pub phase_numbered : ℕ → Option Phase
+phase_numbered n = if nat_le 1 n && nat_le n 27 then Some (slice_index_or all_phases (n - 1) phase.Start) else None
+
+-- the refusal of that number
+abbrev pub refusal_numbered : ℕ → Option Refusal
+refusal_numbered n =
+    if n == 1 then Some refusal.NotAlive
+    else if n == 2 then Some refusal.InCall
+    else if n == 3 then Some refusal.Idle
+    else if n == 4 then Some refusal.BadSize
+    else None
+
+-- the answer that the numbers name
+abbrev pub answer_named : OutcomeWords → Option Answer
+answer_named o =
+    if o.answer == 1 then Some (answer.Mapped o.page)
+    else if o.answer == 2 then Some (answer.Word o.word)
+    else if o.answer == 3 then Some answer.Done
+    else if o.answer == 4 then Some answer.Segv
+    else if o.answer == 5 then Some answer.Beyond
+    else if o.answer == 6 then Some answer.NoFrame
+    else if o.answer == 7 then Some answer.NoQuota
+    else if o.answer == 8 then Some answer.NoMemory
+    else if o.answer == 9 then Some answer.Interrupted
+    else if o.answer == 10 then Some answer.Killed
+    else if o.answer == 11 then Some answer.BadFile
+    else if o.answer == 12 then Some answer.BadRange
+    else if o.answer == 13 then Some answer.NotMapped
+    else if o.answer == 14 then Some answer.NoAddress
+    else None
+
+-- the outcome that they name
+abbrev pub outcome_named : OutcomeWords → Option Outcome
+outcome_named o =
+    if o.kind == 0 then Some outcome.Begun
+    else if o.kind == 1 then option_map outcome.Moved (phase_numbered o.phase)
+    else if o.kind == 2 then Some (outcome.Blocked o.task)
+    else if o.kind == 3 then option_map outcome.Ended (answer_named o)
+    else if o.kind == 4 then Some outcome.Marked
+    else if o.kind == 5 then Some (outcome.Resized o.frames)
+    else if o.kind == 6 then option_map outcome.Refused (refusal_numbered o.refusal)
+    else None

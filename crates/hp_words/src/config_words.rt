@@ -18,6 +18,24 @@ pub struct ConfigWords {
 }
 
 impl ConfigWords {
+    /// The sizes of the config.
+    pub fn of(config: Config) -> ConfigWords
+        ensures { config_words result ≡ sizes config }
+    {
+        let (has_quota, quota) = match config.quota {
+            Some(quota) => (true, quota),
+            None => (false, 0),
+        };
+        ConfigWords {
+            frames: config.frames,
+            files: config.files,
+            slots: config.slots,
+            tasks: config.tasks,
+            quota,
+            has_quota,
+        }
+    }
+
     /// The config of these sizes, if each is within its limits.
     pub fn config(&self) -> Option<Config>
         ensures within { IsSome result ↔ (are_sizes (config_words self.now) ≡ true) }

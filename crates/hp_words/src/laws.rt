@@ -3,7 +3,7 @@ ghost use Rattle.std.specs.Prelude.{◌≡◌, Some};
 ghost use Rattle.hp_base.specs.declared.event.Event.{Event};
 ghost use Rattle.hp_machine.specs.declared.outcome.Outcome.{Outcome};
 ghost use Rattle.hp_machine.specs.declared.outcome.Refusal.{Refusal};
-ghost use Rattle.hp_words.specs.Words.{event_named, event_words, outcome_words, refusal_number};
+ghost use Rattle.hp_words.specs.Words.{event_named, event_words, outcome_named, outcome_words, refusal_number};
 
 /// Each event has numbers that name it.
 pub fn each_event_is_named()
@@ -13,6 +13,11 @@ pub fn each_event_is_named()
 /// Different events have different numbers.
 pub fn events_have_their_own_words()
     ensures { (some other : Event) → event_words some ≡ event_words other → some ≡ other }
+{}
+
+/// Each outcome has numbers that name it.
+pub fn each_outcome_is_named()
+    ensures { (outcome : Outcome) → outcome_named (outcome_words outcome) ≡ Some outcome }
 {}
 
 /// Different outcomes have different numbers.

@@ -8,6 +8,7 @@
 pub mod config_words;
 pub mod event_words;
 pub mod laws;
+mod outcome_named;
 pub mod outcome_words;
 
 pub use config_words::ConfigWords;
