@@ -32,3 +32,7 @@ bad_header = 6
 -- there is more to tell than there is room for
 abbrev pub too_small : ℕ
 too_small = 7
+
+-- the version: 0.1.0
+abbrev pub version : ℕ
+version = 1000
