@@ -1,16 +1,24 @@
 """Tries the module on the traces of examples/: run it with pytest, and HUGEPOOL_LIBRARY where the library isn't installed."""
+import copy
+import ctypes
+import gc
+import pickle
+import sys
 from pathlib import Path
+from threading import Thread
 
 import pytest
 
 import hugepool
-from hugepool import Answer, Pool, begin, deny, events, kill, parse, resize, step
+from hugepool import Answer, Event, Life, Op, OutcomeKind, Phase, Pool, Refusal, begin, deny, events, kill, parse, resize, step
 
 EXAMPLES = Path(__file__).resolve().parents[2] / "examples"
 TRACES = sorted(it for it in EXAMPLES.glob("*.trace") if it.with_suffix(".out").exists() and not it.with_suffix(".status").exists())
+# no event has kind 9
+BAD = Event(kind=9)
 
 
-def opened(trace: Path) -> tuple[Pool, list[hugepool.Event]]:
+def opened(trace: Path) -> tuple[Pool, list[Event]]:
     header, *lines = trace.read_text().splitlines()
     return Pool(*map(int, header.split()[1:])), [parse(it) for it in lines]
 
@@ -24,7 +32,7 @@ def test_outcomes_are_those_of_a_replay(trace):
     assert len(items) == trace.read_text().count("\n") - 1
     again, _ = opened(trace)
     assert [str(it) for it in again.run(items)] == one_by_one
-    assert bytes(again.numbers()) == bytes(pool.numbers())
+    assert again.numbers() == pool.numbers()
     assert hugepool.replay(trace.read_bytes()) == wanted
     assert hugepool.check(trace.read_bytes()) == len(items)
     assert [str(it) for it in items] == trace.read_text().splitlines()[1:]
@@ -35,15 +43,17 @@ def test_a_bad_line_is_told():
     with pytest.raises(hugepool.BadTrace) as raised:
         hugepool.explain(trace.read_text())
     assert f"line {raised.value.line} is not allowed here" in complaint and raised.value.reason in complaint
+    assert str(pickle.loads(pickle.dumps(raised.value))) == str(raised.value)
 
 
 def test_a_page_is_mapped_stored_and_loaded():
     with Pool(frames=4, files=1, slots=2, tasks=2, quota=3) as pool:
         assert str(pool.event(begin(1, "map", 0, 0, 2))) == "begun"
-        assert pool.task(1).phase == hugepool.Phase.START
+        assert pool.task(1).phase is Phase.START and pool.task(2).phase is None
         while not (outcome := pool.event(step(1))).is_ended:
-            assert pool.audit() == 0
-        assert (outcome.answer, outcome.page) == (Answer.MAPPED, 0)
+            assert pool.audit() is hugepool.Finding.NOTHING
+        assert (outcome.kind, outcome.answer, outcome.page) == (OutcomeKind.ENDED, Answer.MAPPED, 0)
+        assert outcome.answer is Answer.MAPPED and outcome.phase is None and outcome.refusal is None
         assert (pool.numbers().resv, pool.numbers().quota, pool.file(0).reserved) == (2, 3, 2)
         other = pool.copy()
         assert pool.translate(1, 0) is None
@@ -54,31 +64,174 @@ def test_a_page_is_mapped_stored_and_loaded():
 
 def test_what_is_held_back_changes_nothing():
     pool = Pool(2, 1, 1, 2)
-    assert str(pool.held_back(step(1))) == "refused idle"
+    assert pool.held_back(step(1)).refusal is Refusal.IDLE
     assert pool.held_back(kill(1)) is None
-    assert str(pool.event(kill(1))) == "marked"
+    assert str(pool.event(kill(1))) == "marked" and pool.task(1).life is Life.KILLED
     assert str(pool.event(resize(3))) == "resized 3"
     assert str(pool.event(deny(9))) == "refused notalive"
 
 
-def test_errors():
-    with pytest.raises(hugepool.NoSuch):
-        Pool(0, 1, 1, 1)
+def test_who_waits_for_whom_is_told():
+    """Two tasks map the same file: the one takes the file's lock, and the other waits for it."""
+    pool = Pool(4, 2, 1, 2)
+    pool.run([begin(1, "map", 1, 0, 1), begin(2, "map", 1, 0, 1)])
+    acquired = pool.acquires(1)
+    assert (acquired.kind, acquired.file) == (hugepool.AcquiredKind.LOCK, 1)
+    pool.event(step(1))
+    assert pool.acquires(1) is None
+    assert (pool.task(2).is_blocked, pool.task(2).holder, pool.task(1).holder) == (True, 1, None)
+
+
+@pytest.mark.parametrize(
+    "given", [(ctypes.c_uint8 * 3)(), (ctypes.c_uint64 * 1)(), (Event * 0)(), ctypes.c_uint64(1), None, "step 1", (1, 2)], ids=repr
+)
+def test_what_is_no_event_is_not_read(given):
     pool = Pool(2, 1, 1, 1)
+    for call in pool.event, pool.held_back:
+        with pytest.raises(TypeError):
+            call(given)
+    if given is not None and not isinstance(given, ctypes.c_uint64) and len(given):
+        with pytest.raises(TypeError):
+            pool.run(given)
+        with pytest.raises(TypeError):
+            pool.run([given])
+
+
+@pytest.mark.parametrize("number", [-1, 1 << 32, (1 << 32) + 4, 1 << 64])
+def test_a_number_that_does_not_fit_is_refused(number):
+    pool = Pool(8, 4, 4, 4)
+    refused = [
+        lambda: Pool(number, 1, 1, 1), lambda: Pool(4, number, 1, 1), lambda: Pool(4, 1, number, 1), lambda: Pool(4, 1, 1, number),
+        lambda: Pool(4, 1, 1, 1, number), lambda: step(number), lambda: deny(number), lambda: kill(number), lambda: resize(number),
+        lambda: begin(number, "exit"), lambda: begin(1, "map", number, 0, 1), lambda: begin(1, "map", 0, number, 1),
+        lambda: begin(1, "map", 0, 0, number), lambda: begin(1, "load", number), lambda: begin(1, "trunc", 0, number),
+        lambda: begin(1, "store", number, 0), lambda: Event(kind=number), lambda: parse(f"step {number}"), lambda: pool.file(number),
+        lambda: pool.task(number), lambda: pool.acquires(number), lambda: pool.translate(number, 0), lambda: pool.translate(1, number),
+    ]
+    for call in refused:
+        with pytest.raises(ValueError):
+            call()
+
+
+def test_a_word_has_64_bits():
+    word = (1 << 64) - 1
+    assert begin(1, "store", 0, word).word == word == parse(f"begin 1 store 0 {word}").word
+    for other in -1, word + 1:
+        with pytest.raises(ValueError):
+            begin(1, "store", 0, other)
+
+
+@pytest.mark.parametrize("number", [1.0, "1", None, b"1"], ids=repr)
+def test_what_is_no_number_is_refused(number):
+    pool = Pool(8, 4, 4, 4)
+    for call in (lambda: Pool(number, 1, 1, 1), lambda: step(number), lambda: begin(1, "load", number), lambda: pool.task(number)):
+        with pytest.raises(TypeError):
+            call()
+
+
+@pytest.mark.parametrize(
+    "line",
+    [
+        "step 1_0", "step +1", "step -1", "step 01", " step 1", "step 1 ", "step  1", "step\t1", "step 1\n", "step \u0661", "Step 1", "step", "",
+        "step 1 2", "begin 1 map 0 0", "begin 1 MAP 0 0 1", "begin 1 exit ", "step 1\0", "stop 1", "step 4294967296",
+    ],
+)
+def test_a_line_has_one_spelling(line):
     with pytest.raises(hugepool.NoSuch):
-        pool.file(1)
-    with pytest.raises(hugepool.NoSuch):
-        parse("stop 1")
-    with pytest.raises(hugepool.NoSuch):
-        begin(1, "grow", 0)
+        parse(line)
+
+
+def test_threads_wait_for_one_another():
+    """Each event happens once, whichever thread makes it, and none finds the pool closed because another is at it."""
+    pool, rounds, raised = Pool(64, 1, 8, 8), 300, []
+    many = events(100 * [kill(9)])
+
+    def work(task: int) -> None:
+        try:
+            for at in range(rounds):
+                assert str(pool.event(resize(1 + at % 64))) == f"resized {1 + at % 64}"
+                assert all(it.refusal is Refusal.NOTALIVE for it in pool.run(many)[:3])
+                assert pool.task(task).life is Life.ALIVE and pool.audit() == 0
+        except Exception as error:
+            raised.append(error)
+
+    threads = [Thread(target=work, args=(1 + at,)) for at in range(4)]
+    switch = sys.getswitchinterval()
+    sys.setswitchinterval(1e-5)
+    for it in threads:
+        it.start()
+    for it in threads:
+        it.join()
+    sys.setswitchinterval(switch)
+    assert raised == []
+
+
+def test_an_error_carries_what_happened():
+    pool = Pool(2, 1, 1, 1)
+    for bad in [resize(1), step(1), BAD, kill(1)], events([resize(1), step(1), BAD]):
+        with pytest.raises(hugepool.NoSuch) as raised:
+            pool.run(bad)
+        assert raised.value.done == 2
+        assert [str(it) for it in raised.value.outcomes] == ["resized 1", "refused idle"]
+    with pytest.raises(hugepool.NoSuch) as raised:
+        Pool(0, 1, 1, 1)
+    assert (raised.value.done, list(raised.value.outcomes)) == (0, [])
+
+
+def test_events_are_values():
+    assert {step(1): "one", kill(1): "two"}[parse("step 1")] == "one"
+    assert step(1) != step(2) and step(1) != "step 1" and len({step(1), deny(1), Event(1, 1), events([step(1)])[0]}) == 2
+    assert step(1).kind is hugepool.EventKind.STEP and parse("begin 1 trunc 0 3").op is Op.TRUNC
+    assert eval(repr(begin(1, "map", 0, 1, 4)), {"Event": Event}) == begin(1, Op.MAP, 0, 1, 4)
+    with pytest.raises(AttributeError):
+        step(1).task = 2
+
+
+def test_outcomes_and_numbers_are_values():
+    one, other = Pool(4, 1, 1, 2), Pool(4, 1, 1, 2)
+    assert one.event(kill(1)) == other.run([kill(1)])[0] and hash(one.event(step(2))) == hash(other.run([step(2)])[0])
+    assert len({one.numbers(), other.numbers()}) == 1 and one.task(1) != one.task(2) and one.file(0) == other.file(0)
+
+
+def test_a_pool_that_was_not_opened_goes_quietly(monkeypatch):
+    said = []
+    monkeypatch.setattr(sys, "unraisablehook", said.append)
+    for words in (), (4,), ("4", 1, 1, 1), (0, 1, 1, 1):
+        with pytest.raises((TypeError, ValueError)):
+            Pool(*words)
+    with pytest.raises(hugepool.Closed):
+        Pool.__new__(Pool).numbers()
+    gc.collect()
+    assert said == []
+
+
+def test_copies():
+    pool = Pool(2, 1, 1, 1)
+    for made in copy.copy(pool), copy.deepcopy(pool):
+        made.event(kill(1))
+        assert pool.task(1).life is Life.ALIVE
+    with pytest.raises(TypeError):
+        pickle.dumps(pool)
     pool.event(begin(1, "load", 0))
     with pytest.raises(hugepool.InFlight):
         pool.copy()
-    bad = [step(1), hugepool.Event(kind=9)]
-    with pytest.raises(hugepool.NoSuch) as raised:
-        pool.run(bad)
-    assert raised.value.done == 1
+
+
+def test_errors():
+    pool = Pool(2, 1, 1, 1)
+    calls = [lambda: Pool(0, 1, 1, 1), lambda: pool.file(1), lambda: begin(1, "grow", 0), lambda: begin(1, "map", 0), lambda: pool.event(BAD)]
+    for call in calls:
+        with pytest.raises(hugepool.NoSuch):
+            call()
+    for trace in 5, None, ["pool 1 1 1 1\n"]:
+        with pytest.raises(TypeError):
+            hugepool.replay(trace)
     pool.close()
     pool.close()
     with pytest.raises(hugepool.Closed):
         pool.event(step(1))
+
+
+def test_the_version_is_that_of_the_library():
+    first, second, third = map(int, hugepool.__version__.split("."))
+    assert hugepool.library_version() == (first, second, third)

@@ -1,0 +1,50 @@
+"""What is raised."""
+from __future__ import annotations
+
+from typing import Sequence
+
+
+class Error(Exception):
+    """The library refused a call; then nothing has changed, but for events of a `Pool.run` that happened before.
+
+    `done` is how many did, and `outcomes` has what came of them."""
+
+    done: int = 0
+    outcomes: Sequence[object] = ()
+
+
+class Closed(Error):
+    """The pool is closed."""
+
+
+class OutOfMemory(Error, MemoryError):
+    """There was no memory."""
+
+
+class NoSuch(Error, ValueError):
+    """No config, event, file or task has these numbers."""
+
+
+class InFlight(Error):
+    """A call of a task is in flight, so there is no copy."""
+
+
+class BadTrace(Error, ValueError):
+    """A line isn't allowed in a trace: its number, counted from 1, and what is wrong with it."""
+
+    def __init__(self, line: int, reason: str) -> None:
+        super().__init__(line, reason)
+        self.line, self.reason = line, reason
+
+    def __str__(self) -> str:
+        return f"line {self.line} is not allowed here: {self.reason}"
+
+
+OK, IS_CLOSED, NO_MEMORY, NO_SUCH, IN_FLIGHT, BAD_LINE, BAD_HEADER, TOO_SMALL = range(8)
+_ERRORS: dict[int, type[Error]] = {IS_CLOSED: Closed, NO_MEMORY: OutOfMemory, NO_SUCH: NoSuch, IN_FLIGHT: InFlight}
+
+
+def error_of(code: int) -> Error:
+    """The error of a code that isn't OK."""
+    error = _ERRORS[code]
+    return error((error.__doc__ or "").rstrip("."))

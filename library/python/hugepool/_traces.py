@@ -1,0 +1,66 @@
+"""Whole traces as texts."""
+from __future__ import annotations
+
+from ctypes import byref, c_char, c_size_t, c_uint32
+from typing import Callable
+
+from hugepool import _library
+from hugepool._errors import BAD_HEADER, BAD_LINE, OK, TOO_SMALL, BadTrace, error_of
+
+
+def _bytes(trace: str | bytes) -> bytes:
+    if isinstance(trace, str):
+        return trace.encode()
+    if isinstance(trace, (bytes, bytearray, memoryview)):
+        return bytes(trace)
+    raise TypeError(f"a trace is str or bytes, and not {type(trace).__name__}")
+
+
+def _put(call: Callable[..., int], room: int, *words: object) -> tuple[int, str]:
+    """What is put into a room that is large enough, which is read there."""
+    needed = c_size_t()
+    while True:
+        out = (c_char * room)()
+        code = call(out, room, byref(needed), *words)
+        if code != TOO_SMALL:
+            return code, str(memoryview(out)[: needed.value], "utf-8") if code == OK else ""
+        room = needed.value
+
+
+def _refuse(data: bytes, code: int, line: int) -> None:
+    """Raises what a code says of a trace."""
+    if code not in (BAD_LINE, BAD_HEADER):
+        raise error_of(code)
+    told, why = _put(lambda *it: _library.reason(data, len(data), line, *it), 200)
+    raise BadTrace(line, why if told == OK else "nothing more can be told")
+
+
+def _text(export: Callable[..., int], trace: str | bytes) -> str:
+    data, line = _bytes(trace), c_uint32()
+    code, text = _put(lambda *it: export(data, len(data), *it), 4096 + 4 * len(data), byref(line))
+    if code:
+        _refuse(data, code, line.value)
+    return text
+
+
+def replay(trace: str | bytes) -> str:
+    """A line for each outcome of the trace, and then the state."""
+    return _text(_library.replay, trace)
+
+
+def explain(trace: str | bytes) -> str:
+    """A row of words for each event of the trace, and then the state."""
+    return _text(_library.explain, trace)
+
+
+def draw(trace: str | bytes) -> str:
+    """A picture of the trace, an SVG."""
+    return _text(_library.draw, trace)
+
+
+def check(trace: str | bytes) -> int:
+    """How many events the trace has."""
+    data, count, line = _bytes(trace), c_uint32(), c_uint32()
+    if code := _library.check(data, len(data), byref(count), byref(line)):
+        _refuse(data, code, line.value)
+    return count.value
