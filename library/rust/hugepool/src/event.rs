@@ -1,26 +1,38 @@
 //! Events.
+use hugepool_sys as sys;
 use hugepool_sys::EventWords;
 use std::error::Error;
 use std::fmt;
 use std::str::FromStr;
 
-/// What a task asks of the pool. Lengths and sizes are in huge pages.
-#[derive(Clone, Copy, Debug, PartialEq, Eq)]
+/// What a task asks of the pool. Lengths and sizes are in huge pages. As text it is what stands behind the task in a trace.
+#[derive(Clone, Copy, Debug, PartialEq, Eq, Hash)]
+#[allow(missing_docs)] // (fields are called what they are)
 pub enum Op {
+    /// `mmap`.
     Map { file: u32, from: u32, len: u32 },
+    /// `mmap` with `MAP_NORESERVE`.
     MapNoReserve { file: u32, from: u32, len: u32 },
+    /// `munmap` of the mapping that begins there.
     Unmap { base: u32 },
+    /// A read of a page.
     Load { page: u32 },
+    /// A write of a word to a page.
     Store { page: u32, word: u64 },
+    /// `fallocate`.
     Alloc { file: u32, from: u32, len: u32 },
+    /// `fallocate` with `FALLOC_FL_KEEP_SIZE`.
     AllocKeep { file: u32, from: u32, len: u32 },
+    /// `fallocate` with `FALLOC_FL_PUNCH_HOLE`.
     Punch { file: u32, from: u32, len: u32 },
+    /// `ftruncate` of a file to so many pages.
     Truncate { file: u32, new: u32 },
+    /// The end of the task.
     Exit,
 }
 
-/// What happens to a pool in one hold of its lock.
-#[derive(Clone, Copy, Debug, PartialEq, Eq)]
+/// What happens to a pool in one hold of its lock. As text it is a line of a trace.
+#[derive(Clone, Copy, Debug, PartialEq, Eq, Hash)]
 pub enum Event {
     /// The task begins a call.
     Begin(u32, Op),
@@ -28,6 +40,7 @@ pub enum Event {
     Step(u32),
     /// The same, but what memory the step wants is refused.
     Deny(u32),
+    /// The task is killed.
     Kill(u32),
     /// The pool is to have so many frames.
     Resize(u32),
@@ -65,7 +78,36 @@ impl From<Event> for EventWords {
     }
 }
 
-/// The line is none of a trace's events.
+impl fmt::Display for Op {
+    fn fmt(&self, f: &mut fmt::Formatter<'_>) -> fmt::Result {
+        match *self {
+            Op::Map { file, from, len } => write!(f, "map {file} {from} {len}"),
+            Op::MapNoReserve { file, from, len } => write!(f, "mapn {file} {from} {len}"),
+            Op::Unmap { base } => write!(f, "unmap {base}"),
+            Op::Load { page } => write!(f, "load {page}"),
+            Op::Store { page, word } => write!(f, "store {page} {word}"),
+            Op::Alloc { file, from, len } => write!(f, "alloc {file} {from} {len}"),
+            Op::AllocKeep { file, from, len } => write!(f, "allock {file} {from} {len}"),
+            Op::Punch { file, from, len } => write!(f, "punch {file} {from} {len}"),
+            Op::Truncate { file, new } => write!(f, "trunc {file} {new}"),
+            Op::Exit => write!(f, "exit"),
+        }
+    }
+}
+
+impl fmt::Display for Event {
+    fn fmt(&self, f: &mut fmt::Formatter<'_>) -> fmt::Result {
+        match *self {
+            Event::Begin(task, op) => write!(f, "begin {task} {op}"),
+            Event::Step(task) => write!(f, "step {task}"),
+            Event::Deny(task) => write!(f, "deny {task}"),
+            Event::Kill(task) => write!(f, "kill {task}"),
+            Event::Resize(frames) => write!(f, "resize {frames}"),
+        }
+    }
+}
+
+/// The line is none of a trace's events, or the numbers name none.
 #[derive(Clone, Debug, PartialEq, Eq)]
 pub struct NoEvent(pub String);
 
@@ -77,40 +119,51 @@ impl fmt::Display for NoEvent {
 
 impl Error for NoEvent {}
 
-fn op_of(words: &[&str]) -> Option<Op> {
-    let (word, numbers) = words.split_first()?;
-    let number = |at: usize| numbers.get(at)?.parse().ok();
-    let (file, from, len) = (number(0), number(1), number(2));
-    Some(match (*word, numbers.len()) {
-        ("map", 3) => Op::Map { file: file?, from: from?, len: len? },
-        ("mapn", 3) => Op::MapNoReserve { file: file?, from: from?, len: len? },
-        ("unmap", 1) => Op::Unmap { base: number(0)? },
-        ("load", 1) => Op::Load { page: number(0)? },
-        ("store", 2) => Op::Store { page: number(0)?, word: numbers[1].parse().ok()? },
-        ("alloc", 3) => Op::Alloc { file: file?, from: from?, len: len? },
-        ("allock", 3) => Op::AllocKeep { file: file?, from: from?, len: len? },
-        ("punch", 3) => Op::Punch { file: file?, from: from?, len: len? },
-        ("trunc", 2) => Op::Truncate { file: file?, new: number(1)? },
-        ("exit", 0) => Op::Exit,
+fn op_of(words: &EventWords) -> Option<Op> {
+    let EventWords { word, op, file, from, len, page, .. } = *words;
+    Some(match op {
+        0 => Op::Map { file, from, len },
+        1 => Op::MapNoReserve { file, from, len },
+        2 => Op::Unmap { base: page },
+        3 => Op::Load { page },
+        4 => Op::Store { page, word },
+        5 => Op::Alloc { file, from, len },
+        6 => Op::AllocKeep { file, from, len },
+        7 => Op::Punch { file, from, len },
+        8 => Op::Truncate { file, new: len },
+        9 => Op::Exit,
         _ => return None,
     })
 }
 
-/// The event of a trace's line.
+fn event_of(words: &EventWords) -> Option<Event> {
+    Some(match words.kind {
+        0 => Event::Begin(words.task, op_of(words)?),
+        1 => Event::Step(words.task),
+        2 => Event::Deny(words.task),
+        3 => Event::Kill(words.task),
+        4 => Event::Resize(words.len),
+        _ => return None,
+    })
+}
+
+impl TryFrom<EventWords> for Event {
+    type Error = NoEvent;
+
+    fn try_from(words: EventWords) -> Result<Event, NoEvent> {
+        event_of(&words).ok_or_else(|| NoEvent(format!("{words:?}")))
+    }
+}
+
+/// The event of a trace's line, which stands here as traces have it, without its end.
 impl FromStr for Event {
     type Err = NoEvent;
 
     fn from_str(line: &str) -> Result<Event, NoEvent> {
-        let words: Vec<&str> = line.split(' ').collect();
-        let number = words.get(1).and_then(|it| it.parse().ok());
-        let event = match (words[0], words.len()) {
-            ("begin", 3..) => number.zip(op_of(&words[2..])).map(|(task, op)| Event::Begin(task, op)),
-            ("step", 2) => number.map(Event::Step),
-            ("deny", 2) => number.map(Event::Deny),
-            ("kill", 2) => number.map(Event::Kill),
-            ("resize", 2) => number.map(Event::Resize),
-            _ => None,
-        };
+        let mut words = EventWords::default();
+        // SAFETY: the line and the words are there, and apart.
+        let code = unsafe { sys::hugepool_read_event(line.as_ptr(), line.len(), &mut words) };
+        let event = if code == 0 { event_of(&words) } else { None };
         event.ok_or_else(|| NoEvent(line.to_string()))
     }
 }

@@ -17,11 +17,12 @@ pub const ANSWERS: [&str; 15] = [
 /// The words of refusals by their numbers, which begin with 1.
 pub const REFUSALS: [&str; 5] = ["", "notalive", "incall", "idle", "badsize"];
 
-/// What came of an event.
-#[derive(Clone, Copy, Debug, PartialEq, Eq)]
+/// What came of an event. As text it is the line of a replay.
+#[derive(Clone, Copy, Debug, PartialEq, Eq, Hash)]
 pub enum Outcome {
+    /// The call is in flight.
     Begun,
-    /// The call stands in the phase of that number now.
+    /// The call stands in the phase of that number now ([`PHASES`]).
     Moved(u32),
     /// Nothing changed: that task holds what the step wants.
     Blocked(u32),
@@ -29,12 +30,13 @@ pub enum Outcome {
     Mapped(u32),
     /// The call is over: a load read that word.
     Word(u64),
-    /// The call is over, with the answer of that number.
+    /// The call is over, with the answer of that number ([`ANSWERS`]).
     Ended(u32),
+    /// The task is killed.
     Marked,
     /// So many frames aren't retired now.
     Resized(u32),
-    /// Nothing changed, because of the refusal of that number.
+    /// Nothing changed, because of the refusal of that number ([`REFUSALS`]).
     Refused(u32),
 }
 
@@ -61,19 +63,23 @@ impl From<OutcomeWords> for Outcome {
     }
 }
 
-/// The line of a replay.
+/// A word of a list. A number that the library never gives has no word.
+fn word<'a>(words: &[&'a str], number: u32) -> &'a str {
+    words.get(number as usize).copied().unwrap_or("?")
+}
+
 impl fmt::Display for Outcome {
     fn fmt(&self, f: &mut fmt::Formatter<'_>) -> fmt::Result {
         match *self {
             Outcome::Begun => write!(f, "begun"),
-            Outcome::Moved(phase) => write!(f, "moved {}", PHASES[phase as usize]),
+            Outcome::Moved(phase) => write!(f, "moved {}", word(&PHASES, phase)),
             Outcome::Blocked(task) => write!(f, "blocked {task}"),
             Outcome::Mapped(page) => write!(f, "ended mapped {page}"),
-            Outcome::Word(word) => write!(f, "ended word {word}"),
-            Outcome::Ended(answer) => write!(f, "ended {}", ANSWERS[answer as usize]),
+            Outcome::Word(number) => write!(f, "ended word {number}"),
+            Outcome::Ended(answer) => write!(f, "ended {}", word(&ANSWERS, answer)),
             Outcome::Marked => write!(f, "marked"),
             Outcome::Resized(frames) => write!(f, "resized {frames}"),
-            Outcome::Refused(refusal) => write!(f, "refused {}", REFUSALS[refusal as usize]),
+            Outcome::Refused(refusal) => write!(f, "refused {}", word(&REFUSALS, refusal)),
         }
     }
 }

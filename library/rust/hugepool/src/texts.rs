@@ -8,7 +8,9 @@ type Export = unsafe extern "C" fn(*const u8, usize, *mut u8, usize, *mut usize,
 /// Why there is no text: a line isn't allowed, which is counted from 1, or there was no memory, at line 0.
 #[derive(Clone, Debug, PartialEq, Eq)]
 pub struct BadTrace {
+    /// The number of the line.
     pub line: u32,
+    /// What is wrong with it, for people to read.
     pub reason: String,
 }
 
