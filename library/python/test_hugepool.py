@@ -83,7 +83,7 @@ def test_who_waits_for_whom_is_told():
 
 
 @pytest.mark.parametrize(
-    "given", [(ctypes.c_uint8 * 3)(), (ctypes.c_uint64 * 1)(), (Event * 0)(), ctypes.c_uint64(1), None, "step 1", (1, 2)], ids=repr
+    "given", [(ctypes.c_uint8 * 3)(), (ctypes.c_uint64 * 1)(), (Event * 0)(), ctypes.c_uint64(1), None, "step 1", (1, 2)], ids=lambda it: type(it).__name__
 )
 def test_what_is_no_event_is_not_read(given):
     pool = Pool(2, 1, 1, 1)
@@ -203,6 +203,19 @@ def test_a_pool_that_was_not_opened_goes_quietly(monkeypatch):
         Pool.__new__(Pool).numbers()
     gc.collect()
     assert said == []
+
+
+def test_a_pool_without_a_quota_has_none():
+    assert (Pool(4, 1, 1, 1).numbers().quota, Pool(4, 1, 1, 1, 0).numbers().quota) == (None, 0)
+
+
+def test_a_text_of_any_length_is_whole():
+    """A picture is longer than the room that is tried first."""
+    trace = "pool 4 1 2 2\n" + 300 * "begin 1 load 0\nstep 1\nstep 1\n"
+    for given in trace, trace.encode(), bytearray(trace.encode()):
+        picture = hugepool.draw(given)
+        assert len(picture) > 4096 + 4 * len(trace) and picture.startswith("<svg") and picture.endswith("</svg>\n")
+        assert "\0" not in picture
 
 
 def test_copies():
