@@ -3,8 +3,10 @@
 
 From specs it reads the number of each name, from sources the fields of each struct and the parameters of each export. Of these it writes a C
 program of assertions, which the compiler has to accept: each constant's number, each field's place and size, each struct's size, each
-function's parameters. Then it looks that the header declares nothing else, and that a header with one number, one field or one parameter
-changed is refused.
+function's parameters; a pool is const exactly where the export's clause `pool` says that it stays. The names of numbers, which the program
+prints, are the words of specs, and all versions are one: that of the header, of the library, of `hugepool --version`, of the Python module
+and of the crates for Rust. Then it looks that the header declares nothing else, and that a header with one number, one field, one
+parameter, one name or one digit of the version changed is refused.
 """
 from __future__ import annotations
 
@@ -45,8 +47,31 @@ ODD = {
 CODE = re.compile(r"^(ok|is_closed|no_memory|no_such|in_flight|bad_line|bad_header|too_small) = (\d+)", re.MULTILINE)
 SIZES = {"u64": 8, "i64": 8, "usize": 8, "*mut u8": 8, "u32": 4, "bool": 1}
 C_TYPES = {"u32": "uint32_t", "usize": "size_t", "bool": "bool", "u8": "uint8_t"}
+WORDS = [TOP / "crates" / it / "specs" / "Text.antt" for it in ("hp_base", "hp_machine")]
 STRUCT = re.compile(r"#\[repr\(C\)\]\n(?:#\[[^\n]*\n)*pub struct (\w+) \{\n(.*?)\n\}", re.DOTALL)
-EXPORT = re.compile(r'pub extern "C" fn (\w+)\((.*?)\)\s*(-> u32)?\s*ensures', re.DOTALL)
+EXPORT = re.compile(r'pub extern "C" fn (\w+)\((.*?)\)\s*(-> u32)?\s*(ensures.*?)\n\{', re.DOTALL)
+# what an export says of a pool that it leaves as it was
+STAYS = "ensures pool { held pool.new ≡ held pool.old }"
+# of lines the header has char, and of whole texts uint8_t
+LINES = re.compile(r"hugepool_(read|write)_")
+# the function of the header that has a number's name, and the words of specs
+NAMES = [
+    ("phase", "PHASE_", r"^phase_word word\.(\w+) = codes \"(\w+)\""),
+    ("answer", "ANSWER_", r"^answer_text \(?answer\.(\w+).*? codes \"(\w+) ?\""),
+    ("answer", "ANSWER_", r"^answer_text answer\.(\w+) = codes \"(\w+)\""),
+    ("refusal", "REFUSAL_", r"^refusal_word refusal\.(\w+) = codes \"(\w+)\""),
+    ("life", "LIFE_", r"^life_word life\.(\w+) = codes \"(\w+)\""),
+    ("op", "", r"^op_text \(?(\w+).*? = codes \"(\w+)\""),
+    ("op", "", r"^alloc_word (\w+) = codes \"(\w+)\""),
+]
+# where each version stands
+VERSIONS = {
+    "crates/hp_command/src/commands.rt": r'^const VERSION: &str = "([\d.]+)"',
+    "library/include/hugepool.h": r'^#define HUGEPOOL_VERSION "([\d.]+)"',
+    "library/python/hugepool/__init__.py": r'^__version__ = "([\d.]+)"',
+    "library/rust/hugepool/Cargo.toml": r'^version = "([\d.]+)"',
+    "library/rust/hugepool-sys/Cargo.toml": r'^version = "([\d.]+)"',
+}
 PROTOTYPE = re.compile(r"^\w+ (hugepool_\w+)\((.*?)\);", re.DOTALL | re.MULTILINE)
 # what a header may not have: the text that is changed, and what it becomes
 FAULTS = [
@@ -58,6 +83,12 @@ FAULTS = [
     ("uint32_t task, uint32_t page, hugepool_frame_words", "uint32_t task, hugepool_frame_words"),
     ("void hugepool_close(", "void hugepool_end(hugepool_pool *pool);\nvoid hugepool_close("),
     ("    HUGEPOOL_STEP = 1,", "    HUGEPOOL_STEP = 1, HUGEPOOL_WAIT = 9,"),
+    ("hugepool_acquires(const hugepool_pool *pool", "hugepool_acquires(hugepool_pool *pool"),
+    ("hugepool_event(hugepool_pool *pool", "hugepool_event(const hugepool_pool *pool"),
+    ('"locked", "missing"', '"missing", "locked"'),
+    ('"nomemory", "interrupted"', '"nospace", "interrupted"'),
+    ('"alloc", "allock"', '"alloc", "keep"'),
+    ("VERSION_MINOR 1", "VERSION_MINOR 2"),
 ]
 
 
@@ -110,37 +141,72 @@ def layout(structs: dict[str, str]) -> Iterator[str]:
         yield f"_Static_assert(sizeof({struct}) == {(end + most - 1) // most * most}, \"{struct}\");"
 
 
-def parameter(kind: str, structs: dict[str, str]) -> list[str]:
+def parameter(kind: str, structs: dict[str, str], byte: str) -> list[str]:
     """The types in C of a parameter."""
     if kind == "Global":
         return []
     shared, of = ("", kind.removeprefix("&mut ")) if kind.startswith("&mut ") else ("const ", kind.removeprefix("&"))
     is_slice = of.startswith("[")
     of = of.strip("[]")
-    name = c_name(of) if of in structs else C_TYPES[of]
+    name = c_name(of) if of in structs else byte if of == "u8" else C_TYPES[of]
     return [name] if not kind.startswith("&") else [f"{shared}{name} *", *(["size_t"] if is_slice else [])]
 
 
 def prototypes(structs: dict[str, str]) -> Iterator[str]:
     """Each export, declared once more."""
-    for name, words, result in EXPORT.findall(read("src/*.rt")):
-        kinds = [it.partition(":")[2].strip() for it in words.split(",") if it.strip()]
-        yield f"{'uint32_t' if result else 'void'} {name}({', '.join(it for kind in kinds for it in parameter(kind, structs))});"
+    for name, words, result, clauses in EXPORT.findall(read("src/*.rt")):
+        named = [it.partition(":") for it in words.split(",") if it.strip()]
+        kinds = [kind.strip().replace("&mut ", "&") if it.strip() == "pool" and STAYS in clauses else kind.strip() for it, _, kind in named]
+        byte = "char" if LINES.match(name) else C_TYPES["u8"]
+        types = [it for kind in kinds for it in parameter(kind, structs, byte)]
+        yield f"{'uint32_t' if result else 'void'} {name}({', '.join(types) or 'void'});"
+
+
+def names() -> dict[str, str]:
+    """A call of the header's for each number that has a name, and the name that specs have for it."""
+    specs, found = "\n".join(it.read_text(encoding="utf-8") for it in WORDS), {}
+    for function, prefix, line in NAMES:
+        for name, word in re.findall(line, specs, re.MULTILINE):
+            constant = {"true": "ALLOC_KEEP", "false": "ALLOC"}.get(name, prefix + snake(name).upper())
+            found[f"hugepool_{function}_name(HUGEPOOL_{constant})"] = word
+    return found
+
+
+def versions() -> list[int]:
+    """The numbers of the version, which is one wherever it stands."""
+    found = {}
+    for file, line in VERSIONS.items():
+        [found[file]] = re.findall(line, (TOP / file).read_text(encoding="utf-8"), re.MULTILINE)
+    if len(set(found.values())) != 1:
+        sys.exit(f"header: versions differ: {', '.join(f'{file} has {it}' for file, it in found.items())}")
+    return [int(it) for it in found["library/include/hugepool.h"].split(".")]
 
 
 def compiles(header: str, program: str) -> str:
-    """What the compiler says against a program with this header."""
+    """What is said against a program with this header: by the compiler, and by itself."""
     with tempfile.TemporaryDirectory() as name:
         (Path(name) / "hugepool.h").write_text(header, encoding="utf-8")
         (Path(name) / "program.c").write_text(f'#include "hugepool.h"\n{program}\n', encoding="utf-8")
-        ran = subprocess.run(["cc", "-std=c11", "-Wall", "-Wextra", "-Werror", "-fsyntax-only", "program.c"], cwd=name, capture_output=True, text=True)
-    return ran.stderr
+        words = ["cc", "-std=c11", "-Wall", "-Wextra", "-Werror", "-o", "program", "program.c"]
+        ran = subprocess.run(words, cwd=name, capture_output=True, text=True)
+        if ran.returncode == 0:
+            ran = subprocess.run([Path(name) / "program"], capture_output=True, text=True)
+    return ran.stdout + ran.stderr
+
+
+def saying(named: dict[str, str], numbers: list[int]) -> str:
+    """A program that says which names and which numbers of the version are others."""
+    lines = [f'if (strcmp({call}, "{word}") != 0) printf("%s isn\'t {word}\\n", "{call}");' for call, word in named.items()]
+    for word, number in zip(("MAJOR", "MINOR", "PATCH"), numbers):
+        lines.append(f'if (HUGEPOOL_VERSION_{word} != {number}) puts("VERSION_{word} isn\'t {number}");')
+    lines.append("for (uint32_t code = 0; code < 8; code++) if (*hugepool_strerror(code) == '?') puts(\"a code has no words\");")
+    return "\n".join(["#include <stdio.h>", "#include <string.h>", "int main(void)", "{", *lines, "return 0;", "}"])
 
 
 def against(header: str, numbers: dict[str, int], structs: dict[str, str], exports: list[str]) -> str:
     """What is wrong with a header."""
     asserted = [f'_Static_assert(HUGEPOOL_{name} == {number}, "{name}");' for name, number in numbers.items()]
-    told = compiles(header, "\n".join([*asserted, *layout(structs), *exports]))
+    told = compiles(header, "\n".join([*asserted, *layout(structs), *exports, saying(names(), versions())]))
     named = set(re.findall(r"\bHUGEPOOL_(\w+) = \d", header)) ^ numbers.keys()
     declared = {name for name, _ in PROTOTYPE.findall(header)} ^ {it.split("(")[0].split()[-1] for it in exports}
     return told + "".join(f"only one of header and sources has {it}\n" for it in sorted(named | declared))
@@ -159,7 +225,12 @@ def main() -> int:
         is_seen = bool(against(header.replace(old, new), numbers, structs, exports))
         passed, failed = passed + is_seen, failed + (not is_seen)
         print("" if is_seen else f"a header with {new!r} isn't noticed\n", end="")
-    print(f"header: {len(numbers)} numbers, {len(structs)} structs, {len(exports)} functions")
+    [number] = re.findall(r"^version = (\d+)", read("specs/*.antt"), re.MULTILINE)
+    first, second, third = versions()
+    if int(number) != first * 1_000_000 + second * 1_000 + third:
+        print(f"header: hp_c has the version {number}")
+        failed += 1
+    print(f"header: {len(numbers)} numbers, {len(names())} names, {len(structs)} structs, {len(exports)} functions")
     print(f"{passed} passed, {failed} failed")
     return 1 if failed else 0
 

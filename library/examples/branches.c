@@ -4,11 +4,15 @@
  *   cc -o branches branches.c $(pkg-config --cflags --libs hugepool)
  *   ./branches < run.trace
  */
-#include "trace.h"
+#include <hugepool.h>
+
+#include <stdio.h>
+#include <stdlib.h>
+#include <string.h>
 
 static void fail(const char *what, uint32_t code)
 {
-    fprintf(stderr, "branches: %s: code %" PRIu32 "\n", what, code);
+    fprintf(stderr, "branches: %s: %s\n", what, hugepool_strerror(code));
     exit(1);
 }
 
@@ -25,23 +29,44 @@ static void branch(hugepool_pool *pool)
     *pool = copy; /* (the handle moves: copy isn't used any more) */
 }
 
+/* A line of a trace happens, and what came of it is printed. */
+static void run(hugepool_pool *pool, const char *line)
+{
+    hugepool_event_words event;
+    hugepool_outcome_words outcome;
+    char told[HUGEPOOL_LINE_ROOM];
+    size_t length;
+    uint32_t code = hugepool_read_event(line, strlen(line), &event);
+    if (code == HUGEPOOL_OK)
+        code = hugepool_event(pool, &event, &outcome);
+    if (code == HUGEPOOL_OK)
+        code = hugepool_write_outcome(&outcome, told, sizeof told, &length);
+    if (code != HUGEPOOL_OK)
+        fail(line, code);
+    printf("%.*s\n", (int)length, told);
+}
+
+/* The next line, without its end, if there is one. */
+static bool next(char *line, int room)
+{
+    if (fgets(line, room, stdin) == NULL)
+        return false;
+    line[strcspn(line, "\n")] = 0;
+    return true;
+}
+
 int main(void)
 {
     hugepool_pool pool = HUGEPOOL_CLOSED;
-    char line[80];
-    if (fgets(line, sizeof line, stdin) == NULL)
-        fail("no header", 0);
-    hugepool_config_words config = config_of(line);
+    hugepool_config_words config;
+    char line[HUGEPOOL_LINE_ROOM + 2];
+    if (!next(line, sizeof line) || hugepool_read_config(line, strlen(line), &config) != HUGEPOOL_OK)
+        fail("the header", HUGEPOOL_BAD_HEADER);
     uint32_t code = hugepool_open(&pool, &config);
     if (code != HUGEPOOL_OK)
         fail("no pool", code);
-    while (fgets(line, sizeof line, stdin) != NULL) {
-        hugepool_event_words event = event_of(line);
-        hugepool_outcome_words outcome;
-        code = hugepool_event(&pool, &event, &outcome);
-        if (code != HUGEPOOL_OK)
-            fail(line, code);
-        print_outcome(stdout, &outcome);
+    while (next(line, sizeof line)) {
+        run(&pool, line);
         branch(&pool);
     }
     hugepool_close(&pool);

@@ -1,17 +1,29 @@
-/* hugepool.h: a pool of huge pages as Linux's hugetlbfs keeps it, a proved state machine.
+/**
+ * @file hugepool.h
+ * A pool of huge pages as Linux's hugetlbfs keeps it, a proved state machine.
  *
- * A pool is a hugepool_pool, which you keep and never look into: begin with HUGEPOOL_CLOSED, and end with hugepool_close. Its
- * bytes may be moved, but not used in two places: hugepool_copy makes a second pool. Give a pool to one call at a time, and keep it on
- * one thread: that it may go to another isn't proved.
+ * A pool is a hugepool_pool, which you keep and never look into: begin with HUGEPOOL_CLOSED, and end with hugepool_close. Its bytes may be
+ * moved, but not used in two places: hugepool_copy makes a second pool.
  *
- * Each call answers HUGEPOOL_OK or a code. After a code the pool is as it was, and so is what a call would have told, but for *needed,
- * *line and *done. Numbers that name nothing are refused by a code, whatever they are. What a call owes is what C's types can't say:
- * pointers aren't null and point to what they are declared to, or to as many as the count beside them says (a count of 0 wants a pointer,
- * too); two of them don't overlap; a bool is 0 or 1.
+ * Threads: give a pool to one call at a time, readers included. It may go from one thread to another between two calls, where these are
+ * ordered (by a lock, say): a call uses what the handle points to, the heap, and nothing that belongs to a thread. Different pools may be
+ * used at the same time. (This is argued, not proved; malloc and free have to be such, too.)
+ *
+ * Codes: each call answers HUGEPOOL_OK or a code. After a code the pool is as it was, and so is what a call would have told, but for
+ * *needed, *line and *done. Numbers that name nothing are refused by a code, whatever they are.
+ *
+ * const: a pool that is given as const is the same after the call. While it runs, it uses the handle's bytes, so the object that you keep
+ * isn't const itself.
+ *
+ * What a call owes is what C's types can't say: pointers aren't null and point to what they are declared to, or to as many as the count
+ * beside them says (a count of 0 wants a pointer, too); two of them don't overlap; a bool is 0 or 1.
  *
  * What each call promises is proved, but for what the words of hugepool_reason say and of which lines it knows any, and that memory is
  * wanting where a call says so other than hugepool_event and hugepool_events (docs/LIBRARY.md says of what it is proved, and what is
- * trusted).
+ * trusted). The names behind "---- names" are no calls of the library, but text of this header.
+ *
+ * The ABI: the soname libhugepool.so.1 stands for it. While it stays, no call, number or field that is here changes or goes; a new
+ * version may add calls, constants, and codes of calls that are new. A struct never grows: a call that tells more has another name.
  */
 #ifndef HUGEPOOL_H
 #define HUGEPOOL_H
@@ -24,30 +36,42 @@
 extern "C" {
 #endif
 
-/* What a call answers. */
+/** The version of this header; hugepool_version() tells that of the library. */
+#define HUGEPOOL_VERSION_MAJOR 0
+#define HUGEPOOL_VERSION_MINOR 1
+#define HUGEPOOL_VERSION_PATCH 0
+#define HUGEPOOL_VERSION "0.1.0"
+#define HUGEPOOL_VERSION_NUMBER (HUGEPOOL_VERSION_MAJOR * 1000000 + HUGEPOOL_VERSION_MINOR * 1000 + HUGEPOOL_VERSION_PATCH)
+
+/** What a call answers. */
 enum hugepool_code {
-    HUGEPOOL_OK = 0,
-    HUGEPOOL_IS_CLOSED = 1,  /* the pool is closed */
-    HUGEPOOL_NO_MEMORY = 2,
-    HUGEPOOL_NO_SUCH = 3,    /* no config, event, file, task or line has these numbers */
-    HUGEPOOL_IN_FLIGHT = 4,  /* a call of a task is in flight */
-    HUGEPOOL_BAD_LINE = 5,   /* line *line isn't allowed in the trace */
-    HUGEPOOL_BAD_HEADER = 6, /* the first line is no header */
-    HUGEPOOL_TOO_SMALL = 7   /* there is more to tell than there is room for */
+    HUGEPOOL_OK = 0,         /**< it was done, and told */
+    HUGEPOOL_IS_CLOSED = 1,  /**< the pool is closed */
+    HUGEPOOL_NO_MEMORY = 2,  /**< there was no memory */
+    HUGEPOOL_NO_SUCH = 3,    /**< no config, event, file, task or line has these numbers */
+    HUGEPOOL_IN_FLIGHT = 4,  /**< a call of a task is in flight */
+    HUGEPOOL_BAD_LINE = 5,   /**< line *line isn't allowed in the trace */
+    HUGEPOOL_BAD_HEADER = 6, /**< the first line is no header */
+    HUGEPOOL_TOO_SMALL = 7   /**< there is more to tell than there is room for */
 };
 
-/* An open pool, or a closed one. */
-typedef struct {
+/** An open pool, or a closed one. All of zeroes it is closed. */
+typedef struct hugepool_pool {
     void *core;
     bool is_open;
     bool was_held_back;
 } hugepool_pool;
 
-#define HUGEPOOL_CLOSED { NULL, false, false }
+/** A closed pool: a value, to begin with or to assign. (At file scope strict ISO C wants { 0 }, which is the same.) */
+#ifdef __cplusplus
+#define HUGEPOOL_CLOSED (hugepool_pool { nullptr, false, false })
+#else
+#define HUGEPOOL_CLOSED ((hugepool_pool) { NULL, false, false })
+#endif
 
-/* How large a pool is: 1 to 4096 frames, 1 to 16 files, 1 to 64 slots, 1 to 64 tasks; and, where has_quota, at most 65536 pages in all
+/** How large a pool is: 1 to 4096 frames, 1 to 16 files, 1 to 64 slots, 1 to 64 tasks; and, where has_quota, at most 65536 pages in all
  * files. Files are numbered from 0, tasks from 1, the indices and pages of a file and of a task from 0. */
-typedef struct {
+typedef struct hugepool_config_words {
     uint32_t frames;
     uint32_t files;
     uint32_t slots;
@@ -56,31 +80,31 @@ typedef struct {
     bool has_quota;
 } hugepool_config_words;
 
-/* What happens to a pool in one hold of its lock. */
+/** What happens to a pool in one hold of its lock. */
 enum hugepool_event_kind {
-    HUGEPOOL_BEGIN = 0, /* task begins the call op */
-    HUGEPOOL_STEP = 1,  /* its call makes one step, and gets what memory it wants */
-    HUGEPOOL_DENY = 2,  /* the same, but what memory the step wants is refused */
-    HUGEPOOL_KILL = 3,  /* task is killed */
-    HUGEPOOL_RESIZE = 4 /* the pool is to have len frames */
+    HUGEPOOL_BEGIN = 0, /**< task begins the call op */
+    HUGEPOOL_STEP = 1,  /**< its call makes one step, and gets what memory it wants */
+    HUGEPOOL_DENY = 2,  /**< the same, but what memory the step wants is refused */
+    HUGEPOOL_KILL = 3,  /**< task is killed */
+    HUGEPOOL_RESIZE = 4 /**< the pool is to have len frames */
 };
 
-/* What a task calls, and what it names of an event. */
+/** What a task calls, and what it names of an event. */
 enum hugepool_op {
-    HUGEPOOL_MAP = 0,            /* mmap: file, from, len */
-    HUGEPOOL_MAP_NO_RESERVE = 1, /* mmap with MAP_NORESERVE: file, from, len */
-    HUGEPOOL_UNMAP = 2,          /* munmap of the mapping that begins at page */
-    HUGEPOOL_LOAD = 3,           /* a read of page */
-    HUGEPOOL_STORE = 4,          /* a write of word to page */
-    HUGEPOOL_ALLOC = 5,          /* fallocate: file, from, len */
-    HUGEPOOL_ALLOC_KEEP = 6,     /* fallocate with FALLOC_FL_KEEP_SIZE: file, from, len */
-    HUGEPOOL_PUNCH = 7,          /* fallocate with FALLOC_FL_PUNCH_HOLE: file, from, len */
-    HUGEPOOL_TRUNCATE = 8,       /* ftruncate of file to len pages */
-    HUGEPOOL_EXIT = 9            /* the end of the task */
+    HUGEPOOL_MAP = 0,            /**< mmap: file, from, len */
+    HUGEPOOL_MAP_NO_RESERVE = 1, /**< mmap with MAP_NORESERVE: file, from, len */
+    HUGEPOOL_UNMAP = 2,          /**< munmap of the mapping that begins at page */
+    HUGEPOOL_LOAD = 3,           /**< a read of page */
+    HUGEPOOL_STORE = 4,          /**< a write of word to page */
+    HUGEPOOL_ALLOC = 5,          /**< fallocate: file, from, len */
+    HUGEPOOL_ALLOC_KEEP = 6,     /**< fallocate with FALLOC_FL_KEEP_SIZE: file, from, len */
+    HUGEPOOL_PUNCH = 7,          /**< fallocate with FALLOC_FL_PUNCH_HOLE: file, from, len */
+    HUGEPOOL_TRUNCATE = 8,       /**< ftruncate of file to len pages */
+    HUGEPOOL_EXIT = 9            /**< the end of the task */
 };
 
-/* An event. What its kind and its call don't name isn't looked at. */
-typedef struct {
+/** An event. What its kind and its call don't name isn't looked at. */
+typedef struct hugepool_event_words {
     uint64_t word;
     uint32_t kind;
     uint32_t task;
@@ -91,20 +115,20 @@ typedef struct {
     uint32_t page;
 } hugepool_event_words;
 
-/* What comes of an event. */
+/** What comes of an event. */
 enum hugepool_outcome_kind {
-    HUGEPOOL_BEGUN = 0,   /* the call is in flight */
-    HUGEPOOL_MOVED = 1,   /* the call stands in phase now */
-    HUGEPOOL_BLOCKED = 2, /* nothing changed: task holds what the step wants */
-    HUGEPOOL_ENDED = 3,   /* the call is over, with answer */
-    HUGEPOOL_MARKED = 4,  /* the task is killed */
-    HUGEPOOL_RESIZED = 5, /* frames aren't retired now */
-    HUGEPOOL_REFUSED = 6  /* nothing changed, because of refusal */
+    HUGEPOOL_BEGUN = 0,   /**< the call is in flight */
+    HUGEPOOL_MOVED = 1,   /**< the call stands in phase now */
+    HUGEPOOL_BLOCKED = 2, /**< nothing changed: task holds what the step wants */
+    HUGEPOOL_ENDED = 3,   /**< the call is over, with answer */
+    HUGEPOOL_MARKED = 4,  /**< the task is killed */
+    HUGEPOOL_RESIZED = 5, /**< frames aren't retired now */
+    HUGEPOOL_REFUSED = 6  /**< nothing changed, because of refusal */
 };
 
-/* Where a call stands. */
+/** Where a call stands. */
 enum hugepool_phase {
-    HUGEPOOL_PHASE_NONE = 0, /* no call is in flight */
+    HUGEPOOL_PHASE_NONE = 0, /**< no call is in flight */
     HUGEPOOL_PHASE_START = 1,
     HUGEPOOL_PHASE_LOOK = 2,
     HUGEPOOL_PHASE_WANT = 3,
@@ -134,34 +158,34 @@ enum hugepool_phase {
     HUGEPOOL_PHASE_DROP = 27
 };
 
-/* What a call ends with. */
+/** What a call ends with. */
 enum hugepool_answer {
-    HUGEPOOL_ANSWER_MAPPED = 1, /* the new mapping begins at page */
-    HUGEPOOL_ANSWER_WORD = 2,   /* a load read word */
+    HUGEPOOL_ANSWER_MAPPED = 1, /**< the new mapping begins at page */
+    HUGEPOOL_ANSWER_WORD = 2,   /**< a load read word */
     HUGEPOOL_ANSWER_DONE = 3,
-    HUGEPOOL_ANSWER_SEGV = 4,         /* no mapping has that page (SIGSEGV) */
-    HUGEPOOL_ANSWER_BEYOND = 5,       /* the page lies at or above the file's size (SIGBUS) */
-    HUGEPOOL_ANSWER_NO_FRAME = 6,     /* no frame is free, or too few are free and unreserved (ENOSPC, in a fault SIGBUS) */
-    HUGEPOOL_ANSWER_NO_QUOTA = 7,     /* the files would have more pages than the quota (ENOSPC, in a fault SIGBUS) */
-    HUGEPOOL_ANSWER_NO_MEMORY = 8,    /* memory that the call wanted was refused (ENOMEM) */
-    HUGEPOOL_ANSWER_INTERRUPTED = 9,  /* an allocation noticed that its task was killed (EINTR) */
-    HUGEPOOL_ANSWER_KILLED = 10, /* another call noticed that its task was killed */
-    HUGEPOOL_ANSWER_BAD_FILE = 11,    /* no file has that number */
-    HUGEPOOL_ANSWER_BAD_RANGE = 12,   /* the range is empty, or ends above a file's limit */
-    HUGEPOOL_ANSWER_NOT_MAPPED = 13,  /* no mapping begins there */
-    HUGEPOOL_ANSWER_NO_ADDRESS = 14   /* there is no room for a mapping of that length (ENOMEM) */
+    HUGEPOOL_ANSWER_SEGV = 4,         /**< no mapping has that page (SIGSEGV) */
+    HUGEPOOL_ANSWER_BEYOND = 5,       /**< the page lies at or above the file's size (SIGBUS) */
+    HUGEPOOL_ANSWER_NO_FRAME = 6,     /**< no frame is free, or too few are free and unreserved (ENOSPC, in a fault SIGBUS) */
+    HUGEPOOL_ANSWER_NO_QUOTA = 7,     /**< the files would have more pages than the quota (ENOSPC, in a fault SIGBUS) */
+    HUGEPOOL_ANSWER_NO_MEMORY = 8,    /**< memory that the call wanted was refused (ENOMEM) */
+    HUGEPOOL_ANSWER_INTERRUPTED = 9,  /**< an allocation noticed that its task was killed (EINTR) */
+    HUGEPOOL_ANSWER_KILLED = 10, /**< another call noticed that its task was killed */
+    HUGEPOOL_ANSWER_BAD_FILE = 11,    /**< no file has that number */
+    HUGEPOOL_ANSWER_BAD_RANGE = 12,   /**< the range is empty, or ends above a file's limit */
+    HUGEPOOL_ANSWER_NOT_MAPPED = 13,  /**< no mapping begins there */
+    HUGEPOOL_ANSWER_NO_ADDRESS = 14   /**< there is no room for a mapping of that length (ENOMEM) */
 };
 
-/* Why an event was refused. */
+/** Why an event was refused. */
 enum hugepool_refusal {
-    HUGEPOOL_REFUSAL_NOT_ALIVE = 1, /* no such task, or it is dead, or killed where only a living one goes on */
-    HUGEPOOL_REFUSAL_IN_CALL = 2,   /* the task has a call in flight */
-    HUGEPOOL_REFUSAL_IDLE = 3,      /* it has none */
-    HUGEPOOL_REFUSAL_BAD_SIZE = 4   /* a pool has 1 to 4096 frames */
+    HUGEPOOL_REFUSAL_NOT_ALIVE = 1, /**< no such task, or it is dead, or killed where only a living one goes on */
+    HUGEPOOL_REFUSAL_IN_CALL = 2,   /**< the task has a call in flight */
+    HUGEPOOL_REFUSAL_IDLE = 3,      /**< it has none */
+    HUGEPOOL_REFUSAL_BAD_SIZE = 4   /**< a pool has 1 to 4096 frames */
 };
 
-/* An outcome. What doesn't belong to its kind, or to its answer, is 0. */
-typedef struct {
+/** An outcome. What doesn't belong to its kind, or to its answer, is 0. */
+typedef struct hugepool_outcome_words {
     uint64_t word;
     uint32_t kind;
     uint32_t phase;
@@ -172,9 +196,9 @@ typedef struct {
     uint32_t refusal;
 } hugepool_outcome_words;
 
-/* A pool: frames that aren't retired, and free ones; the reserve count, and what calls in flight owe to it; the used count, which a quota
+/** A pool: frames that aren't retired, and free ones; the reserve count, and what calls in flight owe to it; the used count, which a quota
  * bounds, and what calls owe to that; calls in flight, files and tasks. quota counts only where has_quota. */
-typedef struct {
+typedef struct hugepool_pool_words {
     int64_t owed;
     int64_t used_owed;
     uint32_t frames;
@@ -188,8 +212,8 @@ typedef struct {
     bool has_quota;
 } hugepool_pool_words;
 
-/* A file: the regions of its reserve map, pending changes of it, spare descriptors for these; its size, its reserved indices, its pages. */
-typedef struct {
+/** A file: the regions of its reserve map, pending changes of it, spare descriptors for these; its size, its reserved indices, its pages. */
+typedef struct hugepool_file_words {
     size_t regions;
     size_t changes;
     size_t spare;
@@ -198,11 +222,12 @@ typedef struct {
     uint32_t pages;
 } hugepool_file_words;
 
+/** How a task lives. One that is killed goes on until its call notices. */
 enum hugepool_life { HUGEPOOL_LIFE_ALIVE = 0, HUGEPOOL_LIFE_KILLED = 1, HUGEPOOL_LIFE_DEAD = 2 };
 
-/* A task: its mappings, its translated pages, how it lives, where its call stands; and, where is_blocked, who holds what the call's next
+/** A task: its mappings, its translated pages, how it lives, where its call stands; and, where is_blocked, who holds what the call's next
  * step wants. */
-typedef struct {
+typedef struct hugepool_task_words {
     size_t mappings;
     size_t entries;
     uint32_t life;
@@ -211,22 +236,23 @@ typedef struct {
     bool is_blocked;
 } hugepool_task_words;
 
-/* What the next step of a call has to take: nothing, the lock of file, or the slot of index of file. */
+/** What the next step of a call has to take: nothing, the lock of file, or the slot of index of file. */
 enum hugepool_acquired_kind { HUGEPOOL_ACQUIRES_NOTHING = 0, HUGEPOOL_ACQUIRES_LOCK = 1, HUGEPOOL_ACQUIRES_SLOT = 2 };
 
-typedef struct {
+/** What that is, with the numbers that count for its kind. */
+typedef struct hugepool_acquired_words {
     uint32_t kind;
     uint32_t file;
     uint32_t index;
 } hugepool_acquired_words;
 
-/* The frame that a page is translated to, where is_there. */
-typedef struct {
+/** The frame that a page is translated to, where is_there. */
+typedef struct hugepool_frame_words {
     uint32_t frame;
     bool is_there;
 } hugepool_frame_words;
 
-/* What an audit finds. Of a pool that events led to it finds nothing: anything else says that the pool's memory was damaged. */
+/** What an audit finds. Of a pool that events led to it finds nothing: anything else says that the pool's memory was damaged. */
 enum hugepool_finding {
     HUGEPOOL_FOUND_NOTHING = 0,
     HUGEPOOL_FOUND_SHAPE = 1,
@@ -239,62 +265,132 @@ enum hugepool_finding {
 
 /* ---- a pool */
 
-/* Opens a pool of these sizes, to which nothing has happened. One that was open there is closed. NO_MEMORY; NO_SUCH if and only if a size
+/** Opens a pool of these sizes, to which nothing has happened. One that was open there is closed. NO_MEMORY; NO_SUCH if and only if a size
  * isn't within its limits. */
 uint32_t hugepool_open(hugepool_pool *pool, const hugepool_config_words *config);
 
-/* Makes a copy of a pool in which no call is in flight: from here on neither sees what happens to the other. One that was open there is
+/** Makes a copy of a pool in which no call is in flight: from here on neither sees what happens to the other. One that was open there is
  * closed. IS_CLOSED, NO_MEMORY, IN_FLIGHT. */
-uint32_t hugepool_copy(hugepool_pool *pool, hugepool_pool *copy);
+uint32_t hugepool_copy(const hugepool_pool *pool, hugepool_pool *copy);
 
-/* Gives the pool's memory back. To close a pool that is closed does nothing. */
+/** Gives the pool's memory back. To close a pool that is closed does nothing. */
 void hugepool_close(hugepool_pool *pool);
 
 /* ---- events */
 
-/* One event: a row of the machine, whose outcome is told. IS_CLOSED; NO_MEMORY if the event wants memory that there isn't; NO_SUCH if and
+/** One event: a row of the machine, whose outcome is told. IS_CLOSED; NO_MEMORY if the event wants memory that there isn't; NO_SUCH if and
  * only if kind or op names nothing. A task or a file that isn't there is no fault: the outcome says so. */
 uint32_t hugepool_event(hugepool_pool *pool, const hugepool_event_words *event, hugepool_outcome_words *outcome);
 
-/* Events, one after the other, with their outcomes, until one can't happen, as alone it couldn't, or there is no room for its outcome
+/** Events, one after the other, with their outcomes, until one can't happen, as alone it couldn't, or there is no room for its outcome
  * (TOO_SMALL). *done is how many happened, whatever is answered; outcomes behind these are as they were. */
 uint32_t hugepool_events(
     hugepool_pool *pool, const hugepool_event_words *events, size_t count, hugepool_outcome_words *outcomes, size_t room, size_t *done);
 
-/* Whether an event would change nothing: whether it would be refused, or its step is blocked. Where it is held back, its outcome is told.
+/** Whether an event would change nothing: whether it would be refused, or its step is blocked. Where it is held back, its outcome is told.
  * IS_CLOSED, NO_SUCH. */
 uint32_t hugepool_held_back(
-    hugepool_pool *pool, const hugepool_event_words *event, bool *is_held_back, hugepool_outcome_words *outcome);
+    const hugepool_pool *pool, const hugepool_event_words *event, bool *is_held_back, hugepool_outcome_words *outcome);
 
 /* ---- what a pool holds (IS_CLOSED; NO_SUCH if and only if the file or the task isn't there) */
 
-uint32_t hugepool_pool_numbers(hugepool_pool *pool, hugepool_pool_words *numbers);
-uint32_t hugepool_file_numbers(hugepool_pool *pool, uint32_t file, hugepool_file_words *numbers);
-uint32_t hugepool_task_numbers(hugepool_pool *pool, uint32_t task, hugepool_task_words *numbers);
+/** The numbers of the pool, of a file and of a task. */
+uint32_t hugepool_pool_numbers(const hugepool_pool *pool, hugepool_pool_words *numbers);
+uint32_t hugepool_file_numbers(const hugepool_pool *pool, uint32_t file, hugepool_file_words *numbers);
+uint32_t hugepool_task_numbers(const hugepool_pool *pool, uint32_t task, hugepool_task_words *numbers);
 
-/* What the next step of the task's call has to take. */
-uint32_t hugepool_acquires(hugepool_pool *pool, uint32_t task, hugepool_acquired_words *acquired);
+/** What the next step of the task's call has to take. */
+uint32_t hugepool_acquires(const hugepool_pool *pool, uint32_t task, hugepool_acquired_words *acquired);
 
-/* The frame that the task's page is translated to. */
-uint32_t hugepool_translate(hugepool_pool *pool, uint32_t task, uint32_t page, hugepool_frame_words *translated);
+/** The frame that the task's page is translated to. */
+uint32_t hugepool_translate(const hugepool_pool *pool, uint32_t task, uint32_t page, hugepool_frame_words *translated);
 
-/* Looks at all of the pool. *finding is HUGEPOOL_FOUND_NOTHING. IS_CLOSED, NO_MEMORY. */
-uint32_t hugepool_audit(hugepool_pool *pool, uint32_t *finding);
+/** Looks at all of the pool. *finding is HUGEPOOL_FOUND_NOTHING. IS_CLOSED, NO_MEMORY. */
+uint32_t hugepool_audit(const hugepool_pool *pool, uint32_t *finding);
 
 /* ---- traces as texts: what the program hugepool writes of them */
 
-/* On OK the first *needed bytes of out are the text, and those behind are as they were. TOO_SMALL: *needed bytes of room are wanted.
+/** On OK the first *needed bytes of out are the text, and those behind are as they were. TOO_SMALL: *needed bytes of room are wanted.
  * BAD_LINE and BAD_HEADER: *line is the first bad line. NO_MEMORY. */
 uint32_t hugepool_replay(const uint8_t *trace, size_t length, uint8_t *out, size_t room, size_t *needed, uint32_t *line);
 uint32_t hugepool_explain(const uint8_t *trace, size_t length, uint8_t *out, size_t room, size_t *needed, uint32_t *line);
 uint32_t hugepool_draw(const uint8_t *trace, size_t length, uint8_t *out, size_t room, size_t *needed, uint32_t *line);
 
-/* How many events the trace has. It takes no memory. BAD_LINE, BAD_HEADER. */
+/** How many events the trace has. It takes no memory. BAD_LINE, BAD_HEADER. */
 uint32_t hugepool_check(const uint8_t *trace, size_t length, uint32_t *events, uint32_t *line);
 
-/* What is wrong with a line of the trace that another call refused, in words for people to read. NO_SUCH if the trace has no such line,
+/** What is wrong with a line of the trace that another call refused, in words for people to read. NO_SUCH if the trace has no such line,
  * or nothing is known to be wrong with it; NO_MEMORY. TOO_SMALL: *needed bytes of room are wanted, and else *needed is 0. */
 uint32_t hugepool_reason(const uint8_t *trace, size_t length, uint32_t line, uint8_t *out, size_t room, size_t *needed);
+
+/* ---- one line of a trace (hugepool-trace(5)), without its end */
+
+/** No line of a trace, an event or an outcome has more bytes. */
+#define HUGEPOOL_LINE_ROOM 56
+
+/** The sizes that a trace's first line spells, as "pool 4 1 2 2". NO_SUCH if and only if it spells none. */
+uint32_t hugepool_read_config(const char *line, size_t length, hugepool_config_words *config);
+
+/** The event that another line spells, as "begin 1 map 0 0 4". NO_SUCH if and only if it spells none. */
+uint32_t hugepool_read_event(const char *line, size_t length, hugepool_event_words *event);
+
+/** The line of an event, and of an outcome as a replay writes it. On OK the first *needed bytes of out are the line (no 0 ends them), and
+ * those behind are as they were. TOO_SMALL: *needed bytes of room are wanted. NO_SUCH if and only if the numbers name none; NO_MEMORY. */
+uint32_t hugepool_write_event(const hugepool_event_words *event, char *out, size_t room, size_t *needed);
+uint32_t hugepool_write_outcome(const hugepool_outcome_words *outcome, char *out, size_t room, size_t *needed);
+
+/* ---- the library */
+
+/** Its version, as HUGEPOOL_VERSION_NUMBER is that of this header. */
+uint32_t hugepool_version(void);
+
+/* ---- names */
+
+/** What a code says, for people to read. */
+static inline const char *hugepool_strerror(uint32_t code)
+{
+    static const char *const said[] = { "done", "the pool is closed", "there was no memory", "the numbers or the line name nothing",
+        "a call is in flight", "a line isn't allowed in the trace", "the first line is no header", "there is too little room" };
+    return code < sizeof said / sizeof *said ? said[code] : "?";
+}
+
+/** The word that traces have for a call, an enum hugepool_op. A number that names none is "?", here and below. */
+static inline const char *hugepool_op_name(uint32_t op)
+{
+    static const char *const words[] = { "map", "mapn", "unmap", "load", "store", "alloc", "allock", "punch", "trunc", "exit" };
+    return op < sizeof words / sizeof *words ? words[op] : "?";
+}
+
+/** The word that replays have for a phase. */
+static inline const char *hugepool_phase_name(uint32_t phase)
+{
+    static const char *const words[] = { "none", "start", "look", "want", "locked", "missing", "changed", "abort", "taken", "settle",
+        "committed", "restore", "found", "leave", "room", "accounted", "enter", "head", "unslot", "extend", "unmap", "evict", "delete",
+        "free", "size", "tail", "clear", "drop" };
+    return phase < sizeof words / sizeof *words ? words[phase] : "?";
+}
+
+/** The word that they have for an answer. */
+static inline const char *hugepool_answer_name(uint32_t answer)
+{
+    static const char *const words[] = { "?", "mapped", "word", "done", "segv", "beyond", "noframe", "noquota", "nomemory", "interrupted",
+        "killed", "badfile", "badrange", "notmapped", "noaddress" };
+    return answer < sizeof words / sizeof *words ? words[answer] : "?";
+}
+
+/** The word that they have for a refusal. */
+static inline const char *hugepool_refusal_name(uint32_t refusal)
+{
+    static const char *const words[] = { "?", "notalive", "incall", "idle", "badsize" };
+    return refusal < sizeof words / sizeof *words ? words[refusal] : "?";
+}
+
+/** The word that they have for how a task lives. */
+static inline const char *hugepool_life_name(uint32_t life)
+{
+    static const char *const words[] = { "alive", "killed", "dead" };
+    return life < sizeof words / sizeof *words ? words[life] : "?";
+}
 
 #ifdef __cplusplus
 }

@@ -192,7 +192,7 @@ def layout_of(body: str) -> dict[str, object]:
 def header() -> dict[str, object]:
     """What the page knows of hugepool.h: its numbers and its structs, by their names without `hugepool_`."""
     text = HEADER.read_text(encoding="utf-8")
-    structs = {name: layout_of(body) for body, name in re.findall(r"^typedef struct \{\n(.*?)\n\} hugepool_(\w+);", text, re.DOTALL | re.MULTILINE)}
+    structs = {name: layout_of(body) for body, name in re.findall(r"^typedef struct \w+ \{\n(.*?)\n\} hugepool_(\w+);", text, re.DOTALL | re.MULTILINE)}
     return {"structs": structs, "numbers": {name: int(number) for name, number in re.findall(r"\bHUGEPOOL_(\w+) = (\d+)", text)}}
 
 

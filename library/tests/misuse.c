@@ -3,9 +3,12 @@
  *
  *   misuse EVENTS SEED
  */
-#include "../examples/trace.h"
+#include <hugepool.h>
 
 #include <assert.h>
+#include <stdio.h>
+#include <stdlib.h>
+#include <string.h>
 
 static uint64_t seed;
 
@@ -45,6 +48,8 @@ static void closed_pools(void)
     assert(hugepool_copy(&pool, &other) == HUGEPOOL_IS_CLOSED && !other.is_open);
     hugepool_close(&pool);
     hugepool_close(&pool);
+    other = HUGEPOOL_CLOSED;
+    assert(!other.is_open && hugepool_version() == HUGEPOOL_VERSION_NUMBER);
 }
 
 static void no_such(void)
@@ -123,6 +128,63 @@ static void texts(void)
     assert(hugepool_reason((const uint8_t *)bad, sizeof bad - 1, 9, why, sizeof why, &needed) == HUGEPOOL_NO_SUCH);
 }
 
+/* What is no line is refused, and then nothing is read; a line that is read is written once more. */
+static void lines(void)
+{
+    static const char *const bad[] = { "", "step", "step 1 ", " step 1", "step  1", "step +1", "step 01", "step 4294967296", "step 1\n",
+        "begin 1 map 0 0", "begin 1 grow 0", "pool 4 1 2 2", "resize -1" };
+    static const char *const good[] = { "begin 1 map 0 1 4", "begin 64 mapn 15 0 4294967295", "begin 1 unmap 0", "begin 2 load 7",
+        "begin 4294967295 store 4294967295 18446744073709551615", "begin 1 alloc 0 0 1", "begin 1 allock 0 0 1", "begin 1 punch 0 2 3",
+        "begin 1 trunc 0 0", "begin 3 exit", "step 1", "deny 0", "kill 12", "resize 4096" };
+    hugepool_event_words event = { 7, 7, 7, 7, 7, 7, 7, 7 };
+    hugepool_config_words config = { 7, 7, 7, 7, 7, true };
+    char out[HUGEPOOL_LINE_ROOM] = { 0 };
+    size_t needed;
+    for (size_t at = 0; at < sizeof bad / sizeof *bad; at++)
+        assert(hugepool_read_event(bad[at], strlen(bad[at]), &event) == HUGEPOOL_NO_SUCH && event.word == 7 && event.page == 7);
+    for (size_t at = 0; at < sizeof good / sizeof *good; at++) {
+        assert(hugepool_read_event(good[at], strlen(good[at]), &event) == HUGEPOOL_OK);
+        assert(hugepool_write_event(&event, out, strlen(good[at]) - 1, &needed) == HUGEPOOL_TOO_SMALL && needed == strlen(good[at]));
+        assert(hugepool_write_event(&event, out, sizeof out, &needed) == HUGEPOOL_OK && needed == strlen(good[at]));
+        assert(memcmp(out, good[at], needed) == 0);
+    }
+    assert(hugepool_read_config("pool 0 1 1 1", 12, &config) == HUGEPOOL_NO_SUCH && config.frames == 7 && config.has_quota);
+    assert(hugepool_read_config("pool 4 1 2 3", 12, &config) == HUGEPOOL_OK && config.frames == 4 && config.tasks == 3 && !config.has_quota);
+    assert(hugepool_read_config("pool 4 1 2 3 0", 14, &config) == HUGEPOOL_OK && config.quota == 0 && config.has_quota);
+    event.kind = 5;
+    assert(hugepool_write_event(&event, out, sizeof out, &needed) == HUGEPOOL_NO_SUCH && needed == 0);
+}
+
+/* An outcome of these numbers is written so; NULL where they name none. */
+static void is_written(uint32_t kind, uint32_t number, const char *line)
+{
+    hugepool_outcome_words outcome = { 0, kind, number, number, number, number, number, number };
+    char out[HUGEPOOL_LINE_ROOM];
+    size_t needed;
+    uint32_t code = hugepool_write_outcome(&outcome, out, sizeof out, &needed);
+    assert(code == (line != NULL ? HUGEPOOL_OK : HUGEPOOL_NO_SUCH) && needed == (line != NULL ? strlen(line) : 0));
+    assert(line == NULL || memcmp(out, line, needed) == 0);
+}
+
+static void outcomes(void)
+{
+    is_written(HUGEPOOL_BEGUN, 99, "begun");
+    is_written(HUGEPOOL_MOVED, 1, "moved start");
+    is_written(HUGEPOOL_MOVED, 27, "moved drop");
+    is_written(HUGEPOOL_MOVED, 0, NULL);
+    is_written(HUGEPOOL_MOVED, 28, NULL);
+    is_written(HUGEPOOL_BLOCKED, 4294967295, "blocked 4294967295");
+    is_written(HUGEPOOL_ENDED, 1, "ended mapped 1");
+    is_written(HUGEPOOL_ENDED, 14, "ended noaddress");
+    is_written(HUGEPOOL_ENDED, 0, NULL);
+    is_written(HUGEPOOL_ENDED, 15, NULL);
+    is_written(HUGEPOOL_MARKED, 99, "marked");
+    is_written(HUGEPOOL_RESIZED, 12, "resized 12");
+    is_written(HUGEPOOL_REFUSED, 4, "refused badsize");
+    is_written(HUGEPOOL_REFUSED, 5, NULL);
+    is_written(7, 1, NULL);
+}
+
 static hugepool_event_words random_event(void)
 {
     hugepool_event_words event = { 0 };
@@ -177,6 +239,8 @@ int main(int count, char **words)
     no_such();
     slices();
     texts();
+    lines();
+    outcomes();
     random_events(strtol(words[1], NULL, 10));
     return 0;
 }

@@ -4,9 +4,12 @@
  *
  *   refused TRACE OUTCOMES
  */
-#include "../examples/trace.h"
+#include <hugepool.h>
 
 #include <assert.h>
+#include <stdio.h>
+#include <stdlib.h>
+#include <string.h>
 
 typedef struct {
     size_t is_there;
@@ -107,22 +110,35 @@ static void copy(hugepool_pool *pool)
     hugepool_close(&other);
 }
 
+/* The line of an outcome, written once more where memory was refused, is that one. */
+static void compare(const hugepool_outcome_words *outcome, const char *wanted)
+{
+    char got[HUGEPOOL_LINE_ROOM];
+    size_t length;
+    uint32_t code = hugepool_write_outcome(outcome, got, sizeof got, &length);
+    if (code == HUGEPOOL_NO_MEMORY) {
+        assert(length == 0);
+        code = hugepool_write_outcome(outcome, got, sizeof got, &length);
+    }
+    assert(code == HUGEPOOL_OK && length + 1 == strlen(wanted) && memcmp(got, wanted, length) == 0);
+}
+
 static void run(const char *trace, const char *outcomes)
 {
-    static char line[80], wanted[80], got[80];
+    static char line[80], wanted[80];
     FILE *events = fopen(trace, "r"), *all = fopen(outcomes, "r");
     assert(events != NULL && all != NULL && fgets(line, sizeof line, events) != NULL);
     hugepool_pool pool = HUGEPOOL_CLOSED;
-    hugepool_config_words config = config_of(line);
+    hugepool_config_words config;
+    assert(hugepool_read_config(line, strlen(line) - 1, &config) == HUGEPOOL_OK);
     open_pool(&pool, &config);
     while (fgets(line, sizeof line, events) != NULL) {
-        hugepool_event_words event = event_of(line);
+        hugepool_event_words event;
         hugepool_outcome_words outcome;
+        assert(hugepool_read_event(line, strlen(line) - 1, &event) == HUGEPOOL_OK);
         make(&pool, &event, &outcome);
-        FILE *text = fmemopen(got, sizeof got, "w");
-        print_outcome(text, &outcome);
-        fclose(text);
-        assert(fgets(wanted, sizeof wanted, all) != NULL && strcmp(wanted, got) == 0);
+        assert(fgets(wanted, sizeof wanted, all) != NULL);
+        compare(&outcome, wanted);
     }
     copy(&pool);
     hugepool_close(&pool);
