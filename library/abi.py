@@ -1,0 +1,98 @@
+#!/usr/bin/env python3
+"""Compares hugepool.h with library/abi.txt: what programs that were built before may rely on, as long as the soname stays.
+
+usage: library/abi.py [--write]
+
+The list has a line for each call with its parameters, for each struct with its size and the places of its fields, and for each number. A
+line of it that the header doesn't keep is a fault: a program that was built before would break. A line that the header has more is one
+until --write adds it; --write never takes one away. Each call has a line in the symbols of Debian's package, too, and no other has.
+"""
+from __future__ import annotations
+
+import re
+import subprocess
+import sys
+import tempfile
+from pathlib import Path
+from typing import Iterator
+
+TOP = Path(__file__).resolve().parent.parent
+HEADER, LIST = TOP / "library" / "include" / "hugepool.h", TOP / "library" / "abi.txt"
+SYMBOLS = TOP / "packaging" / "debian" / "libhugepool1.symbols"
+PROTOTYPE = re.compile(r"^(\w+) (hugepool_\w+)\((.*?)\);", re.DOTALL | re.MULTILINE)
+STRUCT = re.compile(r"^typedef struct (hugepool_\w+) \{\n(.*?)\n\} \1;", re.DOTALL | re.MULTILINE)
+NUMBER = re.compile(r"\bHUGEPOOL_\w+(?= = \d)")
+# what a header may not do: the text that is changed, and what it becomes
+FAULTS = [
+    ("HUGEPOOL_TOO_SMALL = 7", "HUGEPOOL_TOO_SMALL = 8"),
+    ("    uint32_t refusal;\n", "    uint32_t refusal;\n    uint64_t more;\n"),
+    ("    uint32_t from;\n    uint32_t len;", "    uint32_t len;\n    uint32_t from;"),
+    ("uint32_t task, uint32_t page,", "uint32_t task, uint64_t page,"),
+    ("void hugepool_close(", "void hugepool_end("),
+    ("void hugepool_close(", "uint32_t hugepool_close("),
+]
+
+
+def calls(header: str) -> Iterator[str]:
+    """A line for each call; whether a pointer is const matters to no program that is built already."""
+    for result, name, parameters in PROTOTYPE.findall(header):
+        kinds = [re.sub(r"\bconst |\w+$", "", it.strip()).strip() if it != "void" else it for it in parameters.split(",")]
+        yield f"call {result} {name}({', '.join(kinds)})"
+
+
+def printing(header: str) -> Iterator[str]:
+    """Lines of C that print the line of each struct and of each number."""
+    for struct, body in STRUCT.findall(header):
+        yield f'printf("struct {struct} %zu:", sizeof({struct}));'
+        for field in re.findall(r"(\w+);", body):
+            yield f'printf(" {field} %zu+%zu", offsetof({struct}, {field}), sizeof((({struct} *)0)->{field}));'
+        yield 'puts("");'
+    for number in NUMBER.findall(header):
+        yield f'printf("number {number} %d\\n", {number});'
+
+
+def lines_of(header: str) -> list[str]:
+    """All lines of a header."""
+    program = ["#include <stdio.h>", '#include "hugepool.h"', "int main(void) {", *printing(header), "return 0; }"]
+    with tempfile.TemporaryDirectory() as name:
+        (Path(name) / "hugepool.h").write_text(header, encoding="utf-8")
+        (Path(name) / "program.c").write_text("\n".join(program), encoding="utf-8")
+        subprocess.run(["cc", "-o", "program", "program.c"], cwd=name, check=True)
+        ran = subprocess.run([Path(name) / "program"], capture_output=True, text=True, check=True)
+    return [*calls(header), *ran.stdout.splitlines()]
+
+
+def against(header: str, listed: list[str]) -> list[str]:
+    """What a header doesn't keep."""
+    return [it for it in listed if it not in lines_of(header)]
+
+
+def main(words: list[str]) -> int:
+    header, listed = HEADER.read_text(encoding="utf-8"), LIST.read_text(encoding="utf-8").splitlines() if LIST.exists() else []
+    lines, passed, failed = lines_of(header), len(listed), 0
+    if words == ["--write"]:
+        listed += [it for it in lines if it not in listed]
+        LIST.write_text("".join(f"{it}\n" for it in listed), encoding="utf-8")
+    for it in against(header, listed):
+        print(f"abi: not kept: {it}")
+        passed, failed = passed - 1, failed + 1
+    for it in lines:
+        if it not in listed:
+            print(f"abi: not listed, which library/abi.py --write does: {it}")
+            failed += 1
+    named = set(re.findall(r"^ (hugepool_\w+)@", SYMBOLS.read_text(encoding="utf-8"), re.MULTILINE))
+    for it in sorted(named ^ {name for _, name, _ in PROTOTYPE.findall(header)}):
+        print(f"abi: only one of the header and {SYMBOLS.relative_to(TOP)} has {it}")
+        failed += 1
+    for old, new in FAULTS:
+        if header.count(old) != 1:
+            sys.exit(f"abi: {old!r} stands in the header {header.count(old)} times")
+        is_seen = bool(against(header.replace(old, new), listed))
+        passed, failed = passed + is_seen, failed + (not is_seen)
+        print("" if is_seen else f"abi: a header with {new!r} isn't noticed\n", end="")
+    print(f"{passed} passed, {failed} failed")
+    return 1 if failed else 0
+
+
+if __name__ == "__main__":
+    sys.exit(main(sys.argv[1:]))
