@@ -9,7 +9,7 @@
 set -euo pipefail
 source "$(dirname "${BASH_SOURCE[0]}")/needs.sh" cc ar
 rounds=${1-30}
-(cd crates/hp_c && rt lib > /dev/null)
+library/archive.py > /dev/null
 room=$(mktemp -d -t bench-XXXXXX)
 trap 'rm -r "$room"' EXIT
 cp crates/hp_c/out/libhp_c.a "$room/libhugepool.a"

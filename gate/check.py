@@ -65,7 +65,7 @@ GROUPS = {
         # (each test that there is)
         *(Script(str(it.relative_to(TOP)), ("cc", "cargo"), it.stem == "test_compare") for it in sorted(CONFORMANCE.glob("**/test_*.py"))),
     ],
-    "library": [Script("library/header.py", ("cc",)), Script("library/check.py", ("cc",), library=True)],
+    "library": [Script("library/header.py", ("cc",)), Script("library/abi.py", ("cc",)), Script("library/check.py", ("cc",), library=True)],
     "documents": [Script(f"gate/{it}") for it in ("documents.py", "page.py", "proved.py", "mutants.py --apply")],
 }
 # the commands that scripts need, each with its Debian package; without the first nothing runs

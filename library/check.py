@@ -6,8 +6,9 @@ usage: library/check.py [--events N]
 It builds the proved archive, a heap over malloc and the programs of library/examples and library/tests. Then, on the traces of examples/:
 outcomes, with a branch at each moment at rest, and texts are those beside the trace, to the byte; and of each trace that isn't long each
 growth of memory is refused once. Then calls that name nothing, closed pools, rooms that are too small, and N events of random numbers
-(200,000; a long try is 10,000,000). At last the tests of the crates for Rust, where there is cargo, and of the
-Python module, where there is pytest.
+(200,000; a long try is 10,000,000). Then that the library has no variables, which threads would share; the tests of the crates for Rust,
+where there is cargo, each way that they find the library; those of the Python module, where there is pytest; and a wheel in an environment
+of its own, where there are setuptools.
 """
 from __future__ import annotations
 
@@ -22,9 +23,10 @@ from concurrent.futures import ThreadPoolExecutor
 from pathlib import Path
 from typing import Iterator
 
-TOP = Path(__file__).resolve().parent.parent
-LIBRARY, CRATE = TOP / "library", TOP / "crates" / "hp_c"
-ARCHIVE = CRATE / "out" / "libhp_c.a"
+import archive
+from archive import ARCHIVE, TOP
+
+LIBRARY = TOP / "library"
 SANITIZED = ["-std=gnu11", "-O1", "-g", "-Wall", "-Wextra", "-Werror", "-fsanitize=address,undefined", "-fno-sanitize-recover=all"]
 # of traces with more lines than this only some growths would be refused in a minute
 LONG = 300
@@ -32,9 +34,10 @@ LONG = 300
 
 def build(room: Path) -> None:
     """Builds the archive where a source is newer, and the programs."""
-    ran = subprocess.run(["rt", "lib"], cwd=CRATE, stdin=subprocess.DEVNULL, stdout=subprocess.PIPE, stderr=subprocess.STDOUT, text=True)
-    if ran.returncode or not ARCHIVE.exists():
-        sys.exit(f"library: rt lib: {ran.stdout}library: the archive wasn't built")
+    try:
+        archive.prove("library")
+    except archive.Failed as why:
+        sys.exit(str(why))
     heap = LIBRARY / "heap.c"
     for source, more in (("examples/branches", [heap]), ("tests/texts", [heap]), ("tests/misuse", [heap]), ("tests/refused", [])):
         to = room / Path(source).name
@@ -55,31 +58,97 @@ def share(room: Path) -> Path:
 
 def try_python(room: Path) -> tuple[int, int]:
     """How many tests of the module passed, and how many failed."""
-    python = next((it for it in (sys.executable, "/usr/bin/python3") if subprocess.run([it, "-c", "import pytest"], stderr=subprocess.DEVNULL).returncode == 0), None)
+    python = next((it for it in (sys.executable, "/usr/bin/python3") if can(it, "import pytest")), None)
     if python is None:
         print("library: the Python module isn't tried, since pytest is missing (package: python3-pytest)")
         return 0, 0
     own = {**os.environ, "HUGEPOOL_LIBRARY": str(share(room)), "PYTHONDONTWRITEBYTECODE": "1"}
-    words = [python, "-m", "pytest", "-q", "-p", "no:cacheprovider", "library/python"]
-    ran = subprocess.run(words, cwd=TOP, env=own, stdout=subprocess.PIPE, stderr=subprocess.STDOUT, text=True)
+    return counted([python, "-m", "pytest", "-q", "-p", "no:cacheprovider", "library/python"], TOP, own)
+
+
+def counted(words: list[str | Path], where: Path, own: dict[str, str]) -> tuple[int, int]:
+    """How many tests a command says passed, and whether it failed; then what it printed is shown."""
+    ran = subprocess.run(words, cwd=where, env=own, stdin=subprocess.DEVNULL, stdout=subprocess.PIPE, stderr=subprocess.STDOUT, text=True)
     print("" if ran.returncode == 0 else ran.stdout, end="")
-    passed = re.search(r"(\d+) passed", ran.stdout)
-    return int(passed[1]) if passed else 0, int(ran.returncode != 0)
+    return sum(map(int, re.findall(r"(\d+) passed", ran.stdout))), int(ran.returncode != 0)
+
+
+def try_wheel(room: Path) -> tuple[int, int]:
+    """Whether a wheel installs in an environment of its own, and finds the library that it brings there."""
+    python = next((it for it in (sys.executable, "/usr/bin/python3") if can(it, "import ensurepip, setuptools, wheel, venv")), None)
+    if python is None:
+        print("library: no wheel is tried, since setuptools are missing (packages: python3-venv, python3-setuptools, python3-wheel)")
+        return 0, 0
+    made, own = room / "made", {it: value for it, value in os.environ.items() if it != "HUGEPOOL_LIBRARY"}
+    given = ["PROGRAM=/bin/true", "PROVED=/dev/null", "VERSION=0", f"ARCHIVE={ARCHIVE}", f"BUILD={made}", f"PYTHON={python}", "COMMANDS=none"]
+    trace = TOP / "examples" / "map-four-of-four.trace"
+    replays = f"import hugepool, sys; sys.stdout.write(hugepool.replay(open({str(trace)!r}).read()))"
+    steps = [
+        ["make", "--file=packaging/Makefile", *given, "wheel"],
+        [python, "-m", "venv", room / "venv"],
+        [room / "venv" / "bin" / "pip", "install", "--quiet", "--no-index", f"--find-links={made / 'wheel'}", "hugepool"],
+        [room / "venv" / "bin" / "python", "-c", replays],
+    ]
+    for words in steps:
+        ran = subprocess.run(words, cwd=TOP, env=own, stdin=subprocess.DEVNULL, capture_output=True, text=True)
+        if ran.returncode:
+            print(f"library: the wheel: {' '.join(map(str, words))}: {ran.stdout}{ran.stderr}")
+            return 0, 1
+    return int(ran.stdout == trace.with_suffix(".out").read_text()), int(ran.stdout != trace.with_suffix(".out").read_text())
+
+
+def can(python: str, code: str) -> bool:
+    return shutil.which(python) is not None and subprocess.run([python, "-c", code], stderr=subprocess.DEVNULL).returncode == 0
+
+
+def install(room: Path) -> Path:
+    """The static library in a folder by itself, and a system's: a shared one, and what pkg-config has of it."""
+    static, system = room / "static", room / "system"
+    for it in static, system:
+        it.mkdir()
+    subprocess.run(["cc", "-O2", "-fPIC", "-c", "-o", room / "heap.o", LIBRARY / "heap.c"], check=True)
+    shutil.copyfile(ARCHIVE, static / "libhugepool.a")
+    subprocess.run(["ar", "rs", static / "libhugepool.a", room / "heap.o"], check=True, stderr=subprocess.DEVNULL)
+    shutil.copy(share(room), system)
+    (system / "libhugepool.so").symlink_to("libhugepool.so.1")
+    (system / "hugepool.pc").write_text(f"Name: hugepool\nDescription: -\nVersion: 0\nLibs: -L{system} -lhugepool\n", encoding="utf-8")
+    return static
 
 
 def try_rust(room: Path) -> tuple[int, int]:
-    """The same of the crates for Rust."""
+    """The crates for Rust: linked statically, with a library that pkg-config finds, and with one that the linker finds; and their pages."""
     if shutil.which("cargo") is None:
         print("library: the crates for Rust aren't tried, since cargo is missing (package: cargo)")
         return 0, 0
-    subprocess.run(["cc", "-O2", "-fPIC", "-c", "-o", room / "heap.o", LIBRARY / "heap.c"], check=True)
-    shutil.copyfile(ARCHIVE, room / "libhugepool.a")
-    subprocess.run(["ar", "rs", room / "libhugepool.a", room / "heap.o"], check=True, stderr=subprocess.DEVNULL)
-    own = {**os.environ, "HUGEPOOL_LIB_DIR": str(room), "CARGO_TARGET_DIR": str(room / "target")}
-    words = ["cargo", "test", "--offline", "--quiet"]
-    ran = subprocess.run(words, cwd=LIBRARY / "rust", env=own, stdin=subprocess.DEVNULL, stdout=subprocess.PIPE, stderr=subprocess.STDOUT, text=True)
-    print("" if ran.returncode == 0 else ran.stdout, end="")
-    return sum(map(int, re.findall(r"(\d+) passed", ran.stdout))), int(ran.returncode != 0)
+    static, system = install(room), room / "system"
+    plain = {it: value for it, value in os.environ.items() if it != "HUGEPOOL_LIB_DIR"} | {"CARGO_TARGET_DIR": str(room / "target")}
+    finds = {"LD_LIBRARY_PATH": str(system)}
+    ways = [
+        ({"HUGEPOOL_LIB_DIR": str(static)}, "test"),
+        ({"PKG_CONFIG": "/bin/false", "LIBRARY_PATH": str(system), **finds}, "test"),
+        ({"RUSTDOCFLAGS": "-D warnings", "PKG_CONFIG": "/bin/false"}, "doc --no-deps"),
+    ]
+    if shutil.which("pkg-config"):
+        ways.append(({"PKG_CONFIG_PATH": str(system), **finds}, "test"))
+    told = [counted(["cargo", *words.split(), "--offline", "--quiet"], LIBRARY / "rust", {**plain, **own}) for own, words in ways]
+    return sum(passed for passed, _ in told), sum(failed for _, failed in told)
+
+
+def variables(library: Path) -> list[str]:
+    """The sections of a library that hold variables, of a thread or of the whole process. (Tables with addresses are written once.)"""
+    sections = subprocess.run(["readelf", "--sections", "--wide", library], capture_output=True, text=True, check=True).stdout
+    found = re.findall(r"(\.t?(?:data|bss)(?!\.rel\.ro)[.\w]*) +\w+ +\w+ +\w+ +(\w+) ", sections)
+    return [name for name, size in found if int(size, 16)]
+
+
+def try_variables(room: Path) -> tuple[int, int]:
+    """The library has none: so pools may go from thread to thread, and don't meet. The same look finds some where there are some."""
+    (room / "some.c").write_text("int some = 1; static _Thread_local int other; int *none(void) { return &other; }\n", encoding="utf-8")
+    subprocess.run(["cc", "-c", "-o", room / "some.o", room / "some.c"], check=True)
+    found, seen = variables(ARCHIVE), variables(room / "some.o")
+    print("".join(f"library: variables in {it}\n" for it in found), end="")
+    is_well = not found and len(seen) == 2
+    return int(is_well), int(not is_well)
 
 
 def run(*words: str | Path, read: bytes = b"") -> tuple[int, bytes, bytes]:
@@ -136,8 +205,9 @@ def main() -> int:
             code, told, complaint = run(room / program, str(asked.events), seed)
             passed, failed = passed + (code == 0), failed + (code != 0)
             print(f"library: {told.decode() or complaint.decode()}", end="")
-        for tried in try_rust(room), try_python(room):
-            passed, failed = passed + tried[0], failed + tried[1]
+        for tried in (try_variables, try_rust, try_python, try_wheel):
+            well, wrong = tried(room)
+            passed, failed = passed + well, failed + wrong
     print(f"{passed} passed, {failed} failed")
     return 1 if failed else 0
 

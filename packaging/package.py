@@ -7,6 +7,7 @@ It proves and builds the program and the library, where that isn't done yet, and
   hugepool-VERSION-x86_64.tar.gz  the program, libhugepool for C and Python, manual pages, completions, documents and traces
   hugepool_*.deb, libhugepool1_*.deb, libhugepool-dev_*.deb, python3-hugepool_*.deb
                                   the same as packages of Debian's
+  hugepool-VERSION-*.whl          the Python module with the library in it, for pip
   hugepool.html                   the library as a page for browsers (./page), if the tools for it are there
   SHA256SUMS                      their checksums
 
@@ -33,6 +34,9 @@ from pathlib import Path
 from typing import NamedTuple
 
 TOP = Path(__file__).resolve().parent.parent
+sys.path.insert(0, str(TOP / "library"))
+import archive as library  # noqa: E402
+
 DIST = TOP / "dist"
 CRATES = TOP / "crates"
 # the commands that it needs, each with its Debian package
@@ -50,6 +54,8 @@ NEEDS = {
     "dpkg-buildpackage": "dpkg-dev",
     "lintian": "lintian",
 }
+# Python's modules that make a wheel, each with its Debian package
+MODULES = {"setuptools": "python3-setuptools", "wheel": "python3-wheel"}
 # what a package is made of, beside what the toolchain builds
 PARTS = ("library", "docs", "examples", "packaging")
 PACKAGES = ("hugepool", "libhugepool1", "libhugepool-dev", "python3-hugepool")
@@ -92,9 +98,18 @@ def missing(is_built: bool) -> list[str]:
     needs = NEEDS if is_built else {"rt": "the Rattle toolchain, which is no package of Debian's", **NEEDS}
     say(f"needs {', '.join(needs)}")
     lacking = [it for it in needs if not shutil.which(it)]
+    needs |= {f"the Python module {it}": package for it, package in MODULES.items()}
+    lacking += [] if wheelwright() else [f"the Python module {it}" for it in MODULES]
     for it in lacking:
         say(f"'{it}' is missing (package: {needs[it]}): required")
     return lacking
+
+
+def wheelwright() -> str | None:
+    """A Python that has the modules which make a wheel."""
+    imports = ["-c", f"import {', '.join(MODULES)}"]
+    pythons = filter(shutil.which, (sys.executable, "/usr/bin/python3"))
+    return next((it for it in pythons if subprocess.run([it, *imports], stderr=subprocess.DEVNULL).returncode == 0), None)
 
 
 def commit() -> Commit:
@@ -135,10 +150,13 @@ def archive() -> Built:
     if given := os.environ.get("PACKAGE_ARCHIVE"):
         return Built(Path(given).resolve(), None)
     say("proving and building the library, where that isn't done yet")
-    printed = verdicts(run(["rt", "lib"], cwd=CRATES / "hp_c"))
+    try:
+        printed = verdicts(library.prove("package"))
+    except library.Failed as why:
+        raise Failed(str(why)) from None
     if not is_proved(printed, "hp_c"):
         raise Failed("package: rt lib in crates/hp_c doesn't say logic=proved")
-    return Built(CRATES / "hp_c" / "out" / "libhp_c.a", printed)
+    return Built(library.ARCHIVE, printed)
 
 
 def version_of(file: Path) -> str:
@@ -201,19 +219,34 @@ def lay_out(tree: Path, version: str, of: Commit, builds: dict[str, Built]) -> N
     (tree / "debian" / "changelog").write_text(changelog(version, of), encoding="utf-8")
 
 
+def make(tree: Path, version: str, own: dict[str, str], *words: str) -> None:
+    """Has the Makefile build or install what packages hold."""
+    given = [f"{key}=built/{it}" for key, it in (("PROGRAM", "hugepool"), ("ARCHIVE", "libhp_c.a"), ("PROVED", "PROVED"))]
+    given += [f"VERSION={version}", f"BUILD={tree.parent / 'build'}", f"PYTHON={wheelwright()}"]
+    run(["make", "--file=packaging/Makefile", *given, *words], cwd=tree, env=own)
+
+
 def pack_tar(tree: Path, version: str, own: dict[str, str]) -> Path:
     """The .tar.gz, whose files stand below one folder, so that it can lie anywhere."""
     name = f"hugepool-{version}-x86_64"
-    words = [f"{key}=built/{it}" for key, it in (("PROGRAM", "hugepool"), ("ARCHIVE", "libhp_c.a"), ("PROVED", "PROVED"))]
-    words += [f"VERSION={version}", f"BUILD={tree.parent / 'build'}", "prefix=", "pcprefix=$${pcfiledir}/../.."]
-    run(["make", "--file=packaging/Makefile", *words, f"DESTDIR={tree.parent / name}", "install"], cwd=tree, env=own)
+    say("the .tar.gz: manual pages, completions, libraries")
+    make(tree, version, own, "prefix=", "pcprefix=$${pcfiledir}/../..", f"DESTDIR={tree.parent / name}", "install")
     plain = ["--sort=name", f"--mtime=@{own['SOURCE_DATE_EPOCH']}", "--owner=0", "--group=0", "--numeric-owner", "--format=gnu"]
     run(["tar", *plain, "--use-compress-program=gzip -9n", "-cf", f"{name}.tar.gz", name], cwd=tree.parent, env=own)
     return tree.parent / f"{name}.tar.gz"
 
 
+def pack_wheel(tree: Path, version: str, own: dict[str, str]) -> Path:
+    """The Python module with the library in it."""
+    say("the wheel")
+    make(tree, version, own, "wheel")
+    [made] = (tree.parent / "build" / "wheel").glob("*.whl")
+    return made
+
+
 def pack_deb(tree: Path, own: dict[str, str]) -> list[Path]:
     """The Debian packages, which lintian has to find no error in."""
+    say("Debian's packages, which are built anew")
     run(["dpkg-buildpackage", "--build=binary", "--unsigned-source", "--unsigned-changes"], cwd=tree, env=own)
     files = sorted(tree.parent.glob("*.deb"))
     if sorted(it.name.split("_")[0] for it in files) != sorted(PACKAGES):
@@ -259,9 +292,8 @@ def package() -> None:
         tree = Path(room) / f"hugepool-{version}"
         tree.mkdir()
         lay_out(tree, version, of, builds)
-        say(f"hugepool {version}, commit {of.name}: the .tar.gz")
-        files = [pack_tar(tree, version, own)]
-        say("Debian's packages")
+        say(f"hugepool {version}, commit {of.name}")
+        files = [pack_tar(tree, version, own), pack_wheel(tree, version, own)]
         replace([*files, *pack_deb(tree, own), *page(tree.parent / "hugepool.html")])
 
 

@@ -7,6 +7,7 @@ mount -t proc proc /proc
 mount -t devpts -o newinstance,ptmxmode=0666 devpts /dev/pts
 passed=0 failed=0
 doc=/usr/share/doc/hugepool
+replay_in_python='import hugepool, sys; sys.stdout.write(hugepool.replay(sys.stdin.read()))'
 trace=$doc/examples/map-four-of-four.trace
 
 # Whether a command ends well. If not, what it printed is shown.
@@ -120,6 +121,16 @@ completes_in_zsh() {
     cmp <(hugepool schedule --seed 7 < $doc/examples/truncate-against-store.script) /tmp/completed
 }
 
+# (it brings its own library: that of the package is moved away meanwhile)
+installs_wheel() {
+    local own=/usr/lib/x86_64-linux-gnu/libhugepool.so.1
+    python3 -m venv /root/venv && /root/venv/bin/pip install --no-index /given/hugepool-*.whl && mv $own $own.away || return 1
+    /root/venv/bin/python -c 'import hugepool; print(hugepool.library_version())'
+    local status=$?
+    mv $own.away $own
+    return $status
+}
+
 leaves_nothing() {
     dpkg --purge python3-hugepool libhugepool-dev libhugepool1 hugepool && ! find /usr /etc /var/lib/dpkg/info -name '*hugepool*' | grep .
 }
@@ -134,8 +145,12 @@ try "python3-hugepool finds no libhugepool1 by itself" bash -c '! apt-get -qq -y
 try "libhugepool1 installs" installs_given libhugepool1
 try "python3-hugepool installs" installs_given python3-hugepool
 try "python3 -c 'import hugepool'" python3 -c 'import hugepool'
-try "Python replays the traces" replays_all python3 -c 'import hugepool, sys; sys.stdout.write(hugepool.replay(sys.stdin.read()))'
+try "Python replays the traces" replays_all python3 -c "$replay_in_python"
 try "PROVED stands beside the library" says_what_is_proved /usr/share/doc/libhugepool1/PROVED
+
+try "pip and venv install" installs python3-venv python3-pip
+try "the wheel installs in an environment of its own" installs_wheel
+try "there Python replays the traces, too" replays_all /root/venv/bin/python -c "$replay_in_python"
 
 try "man-db installs" installs man-db bsdextrautils
 try "man hugepool-trace" has_page "Outcomes" 5 hugepool-trace
