@@ -7,8 +7,8 @@ It builds the proved archive, a heap over malloc and the programs of library/exa
 outcomes, with a branch at each moment at rest, and texts are those beside the trace, to the byte; and of each trace that isn't long each
 growth of memory is refused once. Then calls that name nothing, closed pools, rooms that are too small, and N events of random numbers
 (200,000; a long try is 10,000,000). Then that the library has no variables, which threads would share; the tests of the crates for Rust,
-where there is cargo, each way that they find the library; those of the Python module, where there is pytest; and a wheel in an environment
-of its own, where there are setuptools.
+where there is cargo, each way that they find the library; those of the Python module, where there is pytest; a wheel in an environment
+of its own, where there are setuptools; and the programs of docs/LIBRARY.md.
 """
 from __future__ import annotations
 
@@ -24,6 +24,7 @@ from pathlib import Path
 from typing import Iterator
 
 import archive
+import shown
 from archive import ARCHIVE, TOP
 
 LIBRARY = TOP / "library"
@@ -134,6 +135,17 @@ def try_rust(room: Path) -> tuple[int, int]:
     return sum(passed for passed, _ in told), sum(failed for _, failed in told)
 
 
+def try_page(room: Path) -> tuple[int, int]:
+    """The programs of docs/LIBRARY.md, in each language that can be run."""
+    own = {**os.environ, "PYTHONPATH": str(LIBRARY / "python"), "PYTHONDONTWRITEBYTECODE": "1", "HUGEPOOL_LIBRARY": str(share(room))}
+    own |= {"HUGEPOOL_LIB_DIR": str(room / "static"), "CARGO_TARGET_DIR": str(room / "target")}
+    passed = failed = 0
+    for language, is_well, told in shown.tried(room, own, ["c", "python", *(["rust"] if shutil.which("cargo") else [])]):
+        passed, failed = passed + is_well, failed + (not is_well)
+        print("" if is_well else f"library: the program in {language} of docs/LIBRARY.md prints: {told}\n", end="")
+    return passed, failed
+
+
 def variables(library: Path) -> list[str]:
     """The sections of a library that hold variables, of a thread or of the whole process. (Tables with addresses are written once.)"""
     sections = subprocess.run(["readelf", "--sections", "--wide", library], capture_output=True, text=True, check=True).stdout
@@ -205,7 +217,7 @@ def main() -> int:
             code, told, complaint = run(room / program, str(asked.events), seed)
             passed, failed = passed + (code == 0), failed + (code != 0)
             print(f"library: {told.decode() or complaint.decode()}", end="")
-        for tried in (try_variables, try_rust, try_python, try_wheel):
+        for tried in (try_variables, try_rust, try_python, try_wheel, try_page):
             well, wrong = tried(room)
             passed, failed = passed + well, failed + wrong
     print(f"{passed} passed, {failed} failed")
