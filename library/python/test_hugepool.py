@@ -209,13 +209,14 @@ def test_a_pool_without_a_quota_has_none():
     assert (Pool(4, 1, 1, 1).numbers().quota, Pool(4, 1, 1, 1, 0).numbers().quota) == (None, 0)
 
 
-def test_a_text_of_any_length_is_whole():
-    """A picture is longer than the room that is tried first."""
-    trace = "pool 4 1 2 2\n" + 300 * "begin 1 load 0\nstep 1\nstep 1\n"
+def test_a_text_of_any_length_is_whole(monkeypatch):
+    """Also one that is longer than the room that is tried first."""
+    trace = (EXAMPLES / "truncate-overtakes-a-store.trace").read_text()
+    wanted = (EXAMPLES.parent / "docs" / "pictures" / "truncate-overtakes-a-store.svg").read_text()
     for given in trace, trace.encode(), bytearray(trace.encode()):
-        picture = hugepool.draw(given)
-        assert len(picture) > 4096 + 4 * len(trace) and picture.startswith("<svg") and picture.endswith("</svg>\n")
-        assert "\0" not in picture
+        assert hugepool.draw(given) == wanted
+    monkeypatch.setattr("hugepool._traces._MOST", len(wanted) - 1)
+    assert hugepool.draw(trace) == wanted
 
 
 def test_copies():

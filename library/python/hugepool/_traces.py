@@ -2,6 +2,7 @@
 from __future__ import annotations
 
 from ctypes import byref, c_char, c_size_t, c_uint32
+from mmap import MAP_ANONYMOUS, MAP_PRIVATE, mmap
 from typing import Callable
 
 from hugepool import _library
@@ -16,11 +17,16 @@ def _bytes(trace: str | bytes) -> bytes:
     raise TypeError(f"a trace is str or bytes, and not {type(trace).__name__}")
 
 
+# An explanation or a picture has some 60 bytes for each of its trace. What is made of one in a room that is too small is made once more;
+# a room that is too large takes no memory, until it is written to.
+_LEAST, _TIMES, _MOST = 1 << 16, 80, 1 << 28
+
+
 def _put(call: Callable[..., int], room: int, *words: object) -> tuple[int, str]:
     """What is put into a room that is large enough, which is read there."""
     needed = c_size_t()
     while True:
-        out = (c_char * room)()
+        out = (c_char * room).from_buffer(mmap(-1, room, MAP_PRIVATE | MAP_ANONYMOUS))
         code = call(out, room, byref(needed), *words)
         if code != TOO_SMALL:
             return code, str(memoryview(out)[: needed.value], "utf-8") if code == OK else ""
@@ -31,13 +37,14 @@ def _refuse(data: bytes, code: int, line: int) -> None:
     """Raises what a code says of a trace."""
     if code not in (BAD_LINE, BAD_HEADER):
         raise error_of(code)
-    told, why = _put(lambda *it: _library.reason(data, len(data), line, *it), 200)
+    told, why = _put(lambda *it: _library.reason(data, len(data), line, *it), _LEAST)
     raise BadTrace(line, why if told == OK else "nothing more can be told")
 
 
 def _text(export: Callable[..., int], trace: str | bytes) -> str:
     data, line = _bytes(trace), c_uint32()
-    code, text = _put(lambda *it: export(data, len(data), *it), 4096 + 4 * len(data), byref(line))
+    room = min(_LEAST + _TIMES * len(data), _MOST)
+    code, text = _put(lambda *it: export(data, len(data), *it), room, byref(line))
     if code:
         _refuse(data, code, line.value)
     return text
