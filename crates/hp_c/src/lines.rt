@@ -12,7 +12,7 @@ ghost use Rattle.hp_c.specs.Texts.{Tells};
 
 use crate::codes::{NO_MEMORY, NO_SUCH, OK, TOO_SMALL};
 use crate::texts::put;
-use hp_base::{Answer, Event, Op};
+use hp_base::{Answer, Op};
 use hp_text::{event_at, header_at};
 use hp_words::{ConfigWords, EventWords, OutcomeWords};
 use std::alloc::Global;
