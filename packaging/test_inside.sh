@@ -2,6 +2,7 @@
 # What packaging/test.sh tries, in the new system, where dist/ is /given. Packages are installed one after the other, each just before it is
 # tried, so that one that doesn't name what it depends on is found.
 set -uo pipefail
+# (in pipes grep reads all there is: one that ends early would fail what writes to it)
 cd /root || exit 1
 mount -t proc proc /proc
 mount -t devpts -o newinstance,ptmxmode=0666 devpts /dev/pts
@@ -53,7 +54,7 @@ prints_outcomes() {
 # Runs what the manual page of each command shows, in the folder that it names
 runs_its_examples() {
     local words
-    man hugepool-replay | col -bx | sed -n 's/^ *\(hugepool [a-z]* < examples[^>|]*\).*/\1/p' > /tmp/examples
+    man hugepool-replay | col -bx | sed -n 's/^ *\(hugepool [a-z]* \(< \)\?examples[^>|]*\).*/\1/p' > /tmp/examples
     [ "$(wc -l < /tmp/examples)" -ge 4 ] || return 1
     while read -r words; do (cd "$doc" && eval "$words" > /dev/null) || return 1; done < /tmp/examples
 }
@@ -62,13 +63,13 @@ runs_its_examples() {
 has_page() {
     local wanted=$1
     shift
-    man "$@" | grep -qF -- "$wanted"
+    man "$@" | grep -F -- "$wanted" > /dev/null
 }
 
 has_all_pages() {
     local it
     for it in $(hugepool --help | sed -n '/^Commands:/,/^$/s/^  \([a-z]*\) .*/\1/p'); do
-        [ "$it" = help ] || man "hugepool-$it" | grep -q "hugepool $it" || return 1
+        [ "$it" = help ] || man "hugepool-$it" | grep "hugepool $it" > /dev/null || return 1
     done
 }
 
@@ -77,7 +78,7 @@ same_version() { [ "$(hugepool --version)" = "hugepool $(pkg-config --modversion
 # shellcheck disable=SC2046  # (pkg-config prints several words)
 compiles() {
     cp /usr/share/doc/libhugepool-dev/examples/* . &&
-        cc -Wall -Werror -o branches branches.c $(pkg-config --cflags --libs hugepool) && ldd branches | grep -q 'libhugepool.so.1 => /'
+        cc -Wall -Werror -o branches branches.c $(pkg-config --cflags --libs hugepool) && ldd branches | grep 'libhugepool.so.1 => /' > /dev/null
 }
 
 compiles_statically() { cc -Wall -Werror -o branches-static branches.c -l:libhugepool.a && ! ldd branches-static | grep hugepool; }
@@ -87,7 +88,7 @@ compiles_with_tar() {
     local own=/opt/hugepool
     mkdir -p $own && tar -C $own --strip-components=1 -xzf /given/hugepool-*-x86_64.tar.gz &&
         cc -o branches-tar branches.c $(PKG_CONFIG_PATH=$own/lib/pkgconfig pkg-config --cflags --libs hugepool) -Wl,-rpath,$own/lib &&
-        ldd branches-tar | grep -q "$own"
+        ldd branches-tar | grep "$own" > /dev/null
 }
 
 exports_only_its_calls() {
@@ -171,10 +172,10 @@ try "shells install" installs bash-completion fish zsh
 try "bash: commands" offers_in_bash "explain explore" hugepool expl
 try "bash: options" offers_in_bash "--times --trace" hugepool race --t
 try "bash: nothing where a value is wanted" offers_in_bash "" hugepool race --times ""
-try "bash: commands after help" offers_in_bash "schedule" hugepool help s
+try "bash: commands after help" offers_in_bash "schedule" hugepool help sc
 try "fish: commands" offers_in_fish "explain explore" "hugepool expl"
 try "fish: options" offers_in_fish "--trace" "hugepool race --tr"
-try "fish: no option of another command" offers_in_fish "" "hugepool work --tr"
+try "fish: no option of another command" offers_in_fish "" "hugepool check --tr"
 try "zsh: a command and an option" completes_in_zsh
 
 try "a C program compiles with the .tar.gz" compiles_with_tar
