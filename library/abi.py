@@ -25,8 +25,9 @@ NUMBER = re.compile(r"\bHUGEPOOL_\w+(?= = \d)")
 # what a header may not do: the text that is changed, and what it becomes
 FAULTS = [
     ("HUGEPOOL_TOO_SMALL = 7", "HUGEPOOL_TOO_SMALL = 8"),
-    ("    uint32_t refusal;\n", "    uint32_t refusal;\n    uint64_t more;\n"),
-    ("    uint32_t from;\n    uint32_t len;", "    uint32_t len;\n    uint32_t from;"),
+    ("    uint32_t refusal;", "    uint64_t more;\n    uint32_t refusal;"),
+    ("    uint32_t from;", "    uint32_t more;\n    uint32_t from;"),
+    ("    uint32_t quota;  /**< where", "    uint64_t quota;  /**< where"),
     ("uint32_t task, uint32_t page,", "uint32_t task, uint64_t page,"),
     ("void hugepool_close(", "void hugepool_end("),
     ("void hugepool_close(", "uint32_t hugepool_close("),
@@ -44,7 +45,7 @@ def printing(header: str) -> Iterator[str]:
     """Lines of C that print the line of each struct and of each number."""
     for struct, body in STRUCT.findall(header):
         yield f'printf("struct {struct} %zu:", sizeof({struct}));'
-        for field in re.findall(r"(\w+);", body):
+        for field in re.findall(r"^ +[\w *]+?(\w+);", body, re.MULTILINE):
             yield f'printf(" {field} %zu+%zu", offsetof({struct}, {field}), sizeof((({struct} *)0)->{field}));'
         yield 'puts("");'
     for number in NUMBER.findall(header):

@@ -77,9 +77,9 @@ PROTOTYPE = re.compile(r"^\w+ (hugepool_\w+)\((.*?)\);", re.DOTALL | re.MULTILIN
 FAULTS = [
     ("HUGEPOOL_PHASE_WANT = 3", "HUGEPOOL_PHASE_WANT = 4"),
     ("HUGEPOOL_NO_SUCH = 3", "HUGEPOOL_NO_SUCH = 4"),
-    ("    uint32_t from;\n    uint32_t len;", "    uint32_t len;\n    uint32_t from;"),
+    ("    uint32_t from;", "    uint32_t more;\n    uint32_t from;"),
     ("    size_t spare;", "    uint32_t spare;"),
-    ("    bool is_blocked;\n", ""),
+    ("    bool is_blocked;", ""),
     ("uint32_t task, uint32_t page, hugepool_frame_words", "uint32_t task, hugepool_frame_words"),
     ("void hugepool_close(", "void hugepool_end(hugepool_pool *pool);\nvoid hugepool_close("),
     ("    HUGEPOOL_STEP = 1,", "    HUGEPOOL_STEP = 1, HUGEPOOL_WAIT = 9,"),

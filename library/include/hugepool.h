@@ -38,9 +38,10 @@ extern "C" {
 
 /** The version of this header; hugepool_version() tells that of the library. */
 #define HUGEPOOL_VERSION_MAJOR 0
-#define HUGEPOOL_VERSION_MINOR 1
-#define HUGEPOOL_VERSION_PATCH 0
-#define HUGEPOOL_VERSION "0.1.0"
+#define HUGEPOOL_VERSION_MINOR 1 /**< its second number */
+#define HUGEPOOL_VERSION_PATCH 0 /**< its third */
+#define HUGEPOOL_VERSION "0.1.0" /**< all of it as text */
+/** All of it as a number. */
 #define HUGEPOOL_VERSION_NUMBER (HUGEPOOL_VERSION_MAJOR * 1000000 + HUGEPOOL_VERSION_MINOR * 1000 + HUGEPOOL_VERSION_PATCH)
 
 /** What a call answers. */
@@ -57,9 +58,9 @@ enum hugepool_code {
 
 /** An open pool, or a closed one. All of zeroes it is closed. */
 typedef struct hugepool_pool {
-    void *core;
-    bool is_open;
-    bool was_held_back;
+    void *core;         /**< not to be looked at, as the others */
+    bool is_open;       /**< whether there is a pool */
+    bool was_held_back; /**< whether its last event changed nothing */
 } hugepool_pool;
 
 /** A closed pool: a value, to begin with or to assign. (At file scope strict ISO C wants { 0 }, which is the same.) */
@@ -69,15 +70,14 @@ typedef struct hugepool_pool {
 #define HUGEPOOL_CLOSED ((hugepool_pool) { NULL, false, false })
 #endif
 
-/** How large a pool is: 1 to 4096 frames, 1 to 16 files, 1 to 64 slots, 1 to 64 tasks; and, where has_quota, at most 65536 pages in all
- * files. Files are numbered from 0, tasks from 1, the indices and pages of a file and of a task from 0. */
+/** How large a pool is. Indices of a file and pages of a task are numbered from 0; lengths are in huge pages. */
 typedef struct hugepool_config_words {
-    uint32_t frames;
-    uint32_t files;
-    uint32_t slots;
-    uint32_t tasks;
-    uint32_t quota;
-    bool has_quota;
+    uint32_t frames; /**< 1 to 4096 */
+    uint32_t files;  /**< 1 to 16, which are numbered from 0 */
+    uint32_t slots;  /**< slots of the fault mutex table: 1 to 64 */
+    uint32_t tasks;  /**< 1 to 64, which are numbered from 1 */
+    uint32_t quota;  /**< where has_quota: how many pages all files may have, at most 65536 */
+    bool has_quota;  /**< whether that is limited */
 } hugepool_config_words;
 
 /** What happens to a pool in one hold of its lock. */
@@ -105,14 +105,14 @@ enum hugepool_op {
 
 /** An event. What its kind and its call don't name isn't looked at. */
 typedef struct hugepool_event_words {
-    uint64_t word;
-    uint32_t kind;
-    uint32_t task;
-    uint32_t op;
-    uint32_t file;
-    uint32_t from;
-    uint32_t len;
-    uint32_t page;
+    uint64_t word; /**< what a store writes */
+    uint32_t kind; /**< an enum hugepool_event_kind */
+    uint32_t task; /**< whose event it is */
+    uint32_t op;   /**< an enum hugepool_op */
+    uint32_t file; /**< a file's number */
+    uint32_t from; /**< an index of the file */
+    uint32_t len;  /**< pages from there on; the new size, or the pool's new number of frames */
+    uint32_t page; /**< a page of the task, where its mappings are */
 } hugepool_event_words;
 
 /** What comes of an event. */
@@ -162,7 +162,7 @@ enum hugepool_phase {
 enum hugepool_answer {
     HUGEPOOL_ANSWER_MAPPED = 1, /**< the new mapping begins at page */
     HUGEPOOL_ANSWER_WORD = 2,   /**< a load read word */
-    HUGEPOOL_ANSWER_DONE = 3,
+    HUGEPOOL_ANSWER_DONE = 3, /**< it was done */
     HUGEPOOL_ANSWER_SEGV = 4,         /**< no mapping has that page (SIGSEGV) */
     HUGEPOOL_ANSWER_BEYOND = 5,       /**< the page lies at or above the file's size (SIGBUS) */
     HUGEPOOL_ANSWER_NO_FRAME = 6,     /**< no frame is free, or too few are free and unreserved (ENOSPC, in a fault SIGBUS) */
@@ -186,54 +186,52 @@ enum hugepool_refusal {
 
 /** An outcome. What doesn't belong to its kind, or to its answer, is 0. */
 typedef struct hugepool_outcome_words {
-    uint64_t word;
-    uint32_t kind;
-    uint32_t phase;
-    uint32_t task;
-    uint32_t answer;
-    uint32_t page;
-    uint32_t frames;
-    uint32_t refusal;
+    uint64_t word;    /**< what a load read */
+    uint32_t kind;    /**< an enum hugepool_outcome_kind */
+    uint32_t phase;   /**< an enum hugepool_phase */
+    uint32_t task;    /**< who holds what a step wants */
+    uint32_t answer;  /**< an enum hugepool_answer */
+    uint32_t page;    /**< where a new mapping begins */
+    uint32_t frames;  /**< how many aren't retired */
+    uint32_t refusal; /**< an enum hugepool_refusal */
 } hugepool_outcome_words;
 
-/** A pool: frames that aren't retired, and free ones; the reserve count, and what calls in flight owe to it; the used count, which a quota
- * bounds, and what calls owe to that; calls in flight, files and tasks. quota counts only where has_quota. */
+/** What a pool holds. */
 typedef struct hugepool_pool_words {
-    int64_t owed;
-    int64_t used_owed;
-    uint32_t frames;
-    uint32_t free;
-    uint32_t resv;
-    uint32_t used;
-    uint32_t quota;
-    uint32_t calls;
-    uint32_t files;
-    uint32_t tasks;
-    bool has_quota;
+    int64_t owed;      /**< what calls in flight owe to the reserve count */
+    int64_t used_owed; /**< what they owe to the used count */
+    uint32_t frames;   /**< frames that aren't retired */
+    uint32_t free;     /**< free ones */
+    uint32_t resv;     /**< the reserve count */
+    uint32_t used;     /**< the used count, which a quota bounds */
+    uint32_t quota;    /**< the quota, where has_quota */
+    uint32_t calls;    /**< calls in flight */
+    uint32_t files;    /**< files */
+    uint32_t tasks;    /**< tasks */
+    bool has_quota;    /**< whether there is a quota */
 } hugepool_pool_words;
 
-/** A file: the regions of its reserve map, pending changes of it, spare descriptors for these; its size, its reserved indices, its pages. */
+/** What a file holds. */
 typedef struct hugepool_file_words {
-    size_t regions;
-    size_t changes;
-    size_t spare;
-    uint32_t size;
-    uint32_t reserved;
-    uint32_t pages;
+    size_t regions;    /**< regions of its reserve map */
+    size_t changes;    /**< pending changes of that */
+    size_t spare;      /**< spare descriptors for these */
+    uint32_t size;     /**< its size */
+    uint32_t reserved; /**< its reserved indices */
+    uint32_t pages;    /**< its pages */
 } hugepool_file_words;
 
 /** How a task lives. One that is killed goes on until its call notices. */
 enum hugepool_life { HUGEPOOL_LIFE_ALIVE = 0, HUGEPOOL_LIFE_KILLED = 1, HUGEPOOL_LIFE_DEAD = 2 };
 
-/** A task: its mappings, its translated pages, how it lives, where its call stands; and, where is_blocked, who holds what the call's next
- * step wants. */
+/** What a task holds. */
 typedef struct hugepool_task_words {
-    size_t mappings;
-    size_t entries;
-    uint32_t life;
-    uint32_t phase;
-    uint32_t holder;
-    bool is_blocked;
+    size_t mappings; /**< its mappings */
+    size_t entries;  /**< its translated pages */
+    uint32_t life;   /**< an enum hugepool_life */
+    uint32_t phase;  /**< an enum hugepool_phase: where its call stands */
+    uint32_t holder; /**< where is_blocked: who holds what the call's next step wants */
+    bool is_blocked; /**< whether somebody does */
 } hugepool_task_words;
 
 /** What the next step of a call has to take: nothing, the lock of file, or the slot of index of file. */
@@ -241,15 +239,15 @@ enum hugepool_acquired_kind { HUGEPOOL_ACQUIRES_NOTHING = 0, HUGEPOOL_ACQUIRES_L
 
 /** What that is, with the numbers that count for its kind. */
 typedef struct hugepool_acquired_words {
-    uint32_t kind;
-    uint32_t file;
-    uint32_t index;
+    uint32_t kind;  /**< an enum hugepool_acquired_kind */
+    uint32_t file;  /**< the file of the lock or the slot */
+    uint32_t index; /**< the index of the slot */
 } hugepool_acquired_words;
 
 /** The frame that a page is translated to, where is_there. */
 typedef struct hugepool_frame_words {
-    uint32_t frame;
-    bool is_there;
+    uint32_t frame; /**< the frame, where is_there */
+    bool is_there;  /**< whether the page is translated */
 } hugepool_frame_words;
 
 /** What an audit finds. Of a pool that events led to it finds nothing: anything else says that the pool's memory was damaged. */
@@ -294,9 +292,13 @@ uint32_t hugepool_held_back(
 
 /* ---- what a pool holds (IS_CLOSED; NO_SUCH if and only if the file or the task isn't there) */
 
-/** The numbers of the pool, of a file and of a task. */
+/** The numbers of the pool. */
 uint32_t hugepool_pool_numbers(const hugepool_pool *pool, hugepool_pool_words *numbers);
+
+/** The numbers of a file. */
 uint32_t hugepool_file_numbers(const hugepool_pool *pool, uint32_t file, hugepool_file_words *numbers);
+
+/** The numbers of a task. */
 uint32_t hugepool_task_numbers(const hugepool_pool *pool, uint32_t task, hugepool_task_words *numbers);
 
 /** What the next step of the task's call has to take. */
@@ -310,10 +312,14 @@ uint32_t hugepool_audit(const hugepool_pool *pool, uint32_t *finding);
 
 /* ---- traces as texts: what the program hugepool writes of them */
 
-/** On OK the first *needed bytes of out are the text, and those behind are as they were. TOO_SMALL: *needed bytes of room are wanted.
- * BAD_LINE and BAD_HEADER: *line is the first bad line. NO_MEMORY. */
+/** A line for each outcome of the trace, and then the state. On OK the first *needed bytes of out are the text, and those behind are as
+ * they were. TOO_SMALL: *needed bytes of room are wanted. BAD_LINE and BAD_HEADER: *line is the first bad line. NO_MEMORY. */
 uint32_t hugepool_replay(const uint8_t *trace, size_t length, uint8_t *out, size_t room, size_t *needed, uint32_t *line);
+
+/** A row of words for each event of the trace, and then the state; else as hugepool_replay. */
 uint32_t hugepool_explain(const uint8_t *trace, size_t length, uint8_t *out, size_t room, size_t *needed, uint32_t *line);
+
+/** A picture of the trace, an SVG; else as hugepool_replay. */
 uint32_t hugepool_draw(const uint8_t *trace, size_t length, uint8_t *out, size_t room, size_t *needed, uint32_t *line);
 
 /** How many events the trace has. It takes no memory. BAD_LINE, BAD_HEADER. */
@@ -334,9 +340,11 @@ uint32_t hugepool_read_config(const char *line, size_t length, hugepool_config_w
 /** The event that another line spells, as "begin 1 map 0 0 4". NO_SUCH if and only if it spells none. */
 uint32_t hugepool_read_event(const char *line, size_t length, hugepool_event_words *event);
 
-/** The line of an event, and of an outcome as a replay writes it. On OK the first *needed bytes of out are the line (no 0 ends them), and
+/** The line of an event. On OK the first *needed bytes of out are the line (no 0 ends them), and
  * those behind are as they were. TOO_SMALL: *needed bytes of room are wanted. NO_SUCH if and only if the numbers name none; NO_MEMORY. */
 uint32_t hugepool_write_event(const hugepool_event_words *event, char *out, size_t room, size_t *needed);
+
+/** The line of an outcome, as a replay writes it; else as hugepool_write_event. */
 uint32_t hugepool_write_outcome(const hugepool_outcome_words *outcome, char *out, size_t room, size_t *needed);
 
 /* ---- the library */
