@@ -4,7 +4,7 @@ usage: ./page [FILE]
 
 It writes FILE, or dist/hugepool.html if none is named: the library as WebAssembly, the traces of examples/, and the page around them.
 
-The library has to be proved and built: `rt lib` in crates/hp_c does it. Then the toolchain's `rattle build` runs once more, over what that
+The library has to be proved and built: library/archive.py does it. Then the toolchain's `rattle build` runs once more, over what that
 kept, with a script in place of its compiler that keeps the LLVM module. The archive that comes of it has to be the one that is built.
 The module's lines about the target are changed to 64-bit WebAssembly, and the toolchain's clang and linker compile it.
 
@@ -35,7 +35,7 @@ HEADER = TOP / "library" / "include" / "hugepool.h"
 CRATE = TOP / "crates" / "hp_c"
 ARCHIVE = CRATE / "out" / "libhp_c.a"
 sys.path.insert(0, str(TOP / "launcher"))
-import toolchain  # noqa: E402
+import prove  # noqa: E402
 
 TARGET = "wasm64-unknown-unknown"
 COMPILES = [f"--target={TARGET}", "-mbulk-memory", "-Wall", "-Wextra", "-Werror"]
@@ -117,10 +117,10 @@ def keeping(room: Path, tools: Path) -> Path:
 
 def prove_again(room: Path, tools: Path) -> str:
     """Has the library proved over what is kept of its proof, and compiled by the compiler that keeps the module; what was printed."""
-    rt = toolchain.load()
+    rt = prove.load()
     crate = rt.rtlib.Crate(str(CRATE), str(TOP), {})
     if not ARCHIVE.is_file() or not all(it.is_built() for it in crate.below()):
-        raise Failed("page: the library isn't proved and built yet: run `rt lib` in crates/hp_c")
+        raise Failed("page: the library isn't proved and built yet: run library/archive.py")
     say("proving the library over what is kept of its proof, to keep its module")
     crate.held = rt.rtlib.lock([*crate.below(), crate])
     with open(room / "printed", "w+", encoding="utf-8") as crate.out, contextlib.redirect_stdout(crate.out):
@@ -128,7 +128,7 @@ def prove_again(room: Path, tools: Path) -> str:
         status = crate.call(rt.rtlib.RATTLE, "build", *words, "-o", str(room / "libhp_c.a"))
     printed = (room / "printed").read_text(encoding="utf-8")
     if status:
-        raise Failed(f"{printed}page: the library isn't proved: run `rt lib` in crates/hp_c")
+        raise Failed(f"{printed}page: the library isn't proved: run library/archive.py")
     return printed
 
 
@@ -140,7 +140,7 @@ def module(room: Path, tools: Path) -> Module:
         raise Failed(f"{printed}page: the toolchain doesn't say logic=proved of hp_c")
     archive = (room / "libhp_c.a").read_bytes()
     if archive != ARCHIVE.read_bytes():
-        raise Failed("page: crates/hp_c/out/libhp_c.a is of other sources: run `rt lib` in crates/hp_c")
+        raise Failed("page: crates/hp_c/out/libhp_c.a is of other sources: run library/archive.py")
     origin = {"proof": verdict[1], "toolchain": run(["rt", "--version"]).strip(), "archive": hashlib.sha256(archive).hexdigest()}
     return Module(room / "module.bc", origin)
 
@@ -254,7 +254,7 @@ def main(words: list[str]) -> int:
         return 127
     try:
         build(Path(words[0]) if words else TOP / "dist" / "hugepool.html")
-    except (Failed, toolchain.Unusable) as why:
+    except (Failed, prove.Unusable) as why:
         print(why, file=sys.stderr)
         return 1
     return 0
