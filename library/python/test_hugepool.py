@@ -23,12 +23,28 @@ def opened(trace: Path) -> tuple[Pool, list[Event]]:
     return Pool(*map(int, header.split()[1:])), [parse(it) for it in lines]
 
 
+def state(pool: Pool) -> list[str]:
+    """What a replay writes of a pool at its end."""
+    held = pool.numbers()
+    files = (pool.file(it) for it in range(held.files))
+    tasks = (pool.task(1 + it) for it in range(held.tasks))
+    used = "" if held.quota is None else f" used {held.used}"
+    return [
+        f"free {held.free} resv {held.resv} calls {held.calls}{used}",
+        *(
+            f"file {number} size {it.size} reserved {it.reserved} regions {it.regions} pages {it.pages} changes {it.changes} spare {it.spare}"
+            for number, it in enumerate(files)
+        ),
+        *(f"task {1 + number} {it.life.name.lower()} mappings {it.mappings} entries {it.entries}" for number, it in enumerate(tasks)),
+    ]
+
+
 @pytest.mark.parametrize("trace", TRACES, ids=lambda it: it.stem)
 def test_outcomes_are_those_of_a_replay(trace):
     pool, items = opened(trace)
     wanted = trace.with_suffix(".out").read_text()
     one_by_one = [str(pool.event(it)) for it in items]
-    assert wanted.startswith("".join(f"{it}\n" for it in one_by_one))
+    assert wanted.splitlines() == one_by_one + state(pool)
     assert len(items) == trace.read_text().count("\n") - 1
     again, _ = opened(trace)
     assert [str(it) for it in again.run(items)] == one_by_one
@@ -205,8 +221,13 @@ def test_a_pool_that_was_not_opened_goes_quietly(monkeypatch):
     assert said == []
 
 
-def test_a_pool_without_a_quota_has_none():
-    assert (Pool(4, 1, 1, 1).numbers().quota, Pool(4, 1, 1, 1, 0).numbers().quota) == (None, 0)
+def test_numbers_have_all_that_a_pool_holds():
+    """(What a replay writes at its end is compared for each trace; this is what it doesn't write.)"""
+    without, pool = Pool(4, 1, 1, 1), Pool(5, 2, 3, 4, 0)
+    assert (without.numbers().quota, without.numbers().has_quota) == (None, False)
+    held = pool.numbers()
+    assert (held.frames, held.free, held.files, held.tasks, held.quota, held.has_quota) == (5, 5, 2, 4, 0, True)
+    assert (held.owed, held.used_owed, held.used, held.calls) == (0, 0, 0, 0)
 
 
 def test_a_text_of_any_length_is_whole(monkeypatch):

@@ -1,7 +1,8 @@
 """What is raised."""
 from __future__ import annotations
 
-from typing import Sequence
+from ctypes import Array
+from typing import Any, Sequence
 
 
 class Error(Exception):
@@ -10,7 +11,7 @@ class Error(Exception):
     `done` is how many did, and `outcomes` has what came of them."""
 
     done: int = 0
-    outcomes: Sequence[object] = ()
+    outcomes: Array[Any] | Sequence[Any] = ()
 
 
 class Closed(Error):

@@ -28,7 +28,7 @@ def _call(library: ctypes.CDLL, name: str, *kinds: object) -> Callable[..., int]
         call = library[f"hugepool_{name}"]  # (each subscript is a function of its own)
     except AttributeError:
         raise ImportError(f"{_path()} has no hugepool_{name}: it is older than this module") from None
-    call.argtypes, call.restype = kinds, c_uint32
+    call.argtypes, call.restype = kinds, c_uint32  # type: ignore[assignment]
     return call
 
 

@@ -5,7 +5,7 @@ import ctypes
 from ctypes import byref, c_bool, c_size_t, c_uint32
 from operator import index
 from threading import RLock
-from typing import Callable, Iterable
+from typing import Callable, ContextManager, Iterable
 
 from hugepool import _library
 from hugepool._errors import NoSuch, error_of
@@ -32,6 +32,8 @@ class Pool:
     A pool may be used by several threads: while one is in a call, others wait for it. Which of them goes first, nobody says."""
 
     _close: Callable[..., int] = staticmethod(_library.close_pool)
+    _handle: Handle
+    _lock: ContextManager[object]
 
     def __new__(cls, *_: object, **__: object) -> Pool:
         """A closed pool: what can be closed is there, however the opening ends."""

@@ -65,13 +65,13 @@ class Finding(IntEnum):
 class Words(ctypes.Structure):
     """Numbers that don't change: they are compared and hashed by what they say. (Bytes behind the last field say nothing.)"""
 
-    _used: ClassVar[int]
+    _extent: ClassVar[int]  # bytes up to the end of the last field
 
     def __eq__(self, other: object) -> bool:
-        return type(other) is type(self) and bytes(self)[: self._used] == bytes(other)[: self._used]  # type: ignore[call-overload]
+        return type(other) is type(self) and bytes(self)[: self._extent] == bytes(other)[: self._extent]  # type: ignore[call-overload]
 
     def __hash__(self) -> int:
-        return hash(bytes(self)[: self._used])
+        return hash(bytes(self)[: self._extent])
 
     def __repr__(self) -> str:
         numbers = (f"{name.removeprefix('_')}={getattr(self, name)}" for name, *_ in self._fields_)
@@ -84,7 +84,7 @@ _W = TypeVar("_W", bound=type[Words])
 def _readable(words: _W) -> _W:
     """Has each field _name read as name, where the class doesn't say otherwise."""
     last = getattr(words, words._fields_[-1][0])
-    words._used = last.offset + last.size
+    words._extent = last.offset + last.size
     for name, *_ in words._fields_:
         if not hasattr(words, name.removeprefix("_")):
             setattr(words, name.removeprefix("_"), property(attrgetter(name)))
@@ -177,17 +177,18 @@ class Outcome(Words):
 
     @property
     def is_ended(self) -> bool:
-        return self._kind == 3
+        return bool(self._kind == 3)
 
     @property
-    def _behind(self) -> list[object]:
+    def _behind(self) -> tuple[object, ...]:
         """What stands behind the first word of its line."""
         if self.answer:
-            numbers: dict[Answer, list[object]] = {Answer.MAPPED: [self.page], Answer.WORD: [self.word]}
-            return [self.answer.name.lower(), *numbers.get(self.answer, [])]
+            numbers = {Answer.MAPPED: (self.page,), Answer.WORD: (self.word,)}
+            return (self.answer.name.lower(), *numbers.get(self.answer, ()))
         if named := self.phase or self.refusal:
-            return [named.name.lower()]
-        return {OutcomeKind.BLOCKED: [self.task], OutcomeKind.RESIZED: [self.frames]}.get(self.kind, [])
+            return (named.name.lower(),)
+        counted = {OutcomeKind.BLOCKED: (self.task,), OutcomeKind.RESIZED: (self.frames,)}
+        return counted.get(self.kind, ())
 
     def __str__(self) -> str:
         return " ".join([self.kind.name.lower(), *map(str, self._behind)])
