@@ -25,6 +25,23 @@ fn opened(header: &str) -> Pool {
     Pool::open(sizes).unwrap()
 }
 
+/// What a replay writes of a pool at its end.
+fn state(pool: &Pool) -> String {
+    let lives = ["alive", "killed", "dead"];
+    let held = pool.numbers().unwrap();
+    let used = if held.has_quota { format!(" used {}", held.used) } else { String::new() };
+    let mut text = format!("free {} resv {} calls {}{used}\n", held.free, held.resv, held.calls);
+    for (number, it) in pool.files().map(Result::unwrap).enumerate() {
+        let spare = format!("changes {} spare {}", it.changes, it.spare);
+        let pages = format!("regions {} pages {}", it.regions, it.pages);
+        text += &format!("file {number} size {} reserved {} {pages} {spare}\n", it.size, it.reserved);
+    }
+    for (number, it) in pool.tasks().map(Result::unwrap).enumerate() {
+        text += &format!("task {} {} mappings {} entries {}\n", number + 1, lives[it.life as usize], it.mappings, it.entries);
+    }
+    text
+}
+
 /// The numbers of a trace's header, read as text.
 fn numbers_of(header: &str) -> Vec<u32> {
     header.split(' ').skip(1).map(|it| it.parse().unwrap()).collect()
@@ -59,6 +76,7 @@ fn outcomes_are_those_of_a_replay() {
         let numbers = numbers_of(header);
         assert_eq!((other.files().count(), other.tasks().count()), (numbers[1] as usize, numbers[3] as usize));
         assert_eq!(pool.audit(), Ok(0));
+        assert!(out.ends_with(&state(&pool)));
         assert_eq!(replay(trace.as_bytes()).unwrap(), out);
         assert_eq!(check(trace.as_bytes()).unwrap() as usize, events.len());
     }
