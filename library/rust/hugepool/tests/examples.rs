@@ -1,5 +1,6 @@
 //! Replays the traces of examples/, event by event, in slices and whole.
 use hugepool::{check, replay, AcquiredWords, Event, EventWords, Fault, Op, Outcome, OutcomeWords, Pool, Sizes};
+use std::ffi::OsStr;
 use std::fs;
 use std::path::PathBuf;
 use std::thread;
@@ -11,7 +12,7 @@ fn examples() -> PathBuf {
 /// The traces with what a replay writes of them.
 fn traces() -> Vec<(String, String)> {
     let mut found: Vec<PathBuf> = fs::read_dir(examples()).unwrap().map(|it| it.unwrap().path()).collect();
-    found.retain(|it| it.extension().is_some_and(|it| it == "trace") && it.with_extension("out").exists());
+    found.retain(|it| it.extension() == Some(OsStr::new("trace")) && it.with_extension("out").exists());
     found.retain(|it| !it.with_extension("status").exists());
     found.sort();
     assert!(found.len() > 20);
