@@ -5,10 +5,12 @@ usage: library/check.py [--events N]
 
 It builds the proved archive, a heap over malloc and the programs of library/examples and library/tests. Then, on the traces of examples/:
 outcomes, with a branch at each moment at rest, and texts are those beside the trace, to the byte; and of each trace that isn't long each
-growth of memory is refused once. Then calls that name nothing, closed pools, rooms that are too small, and N events of random numbers
-(200,000; a long try is 10,000,000). Then that the library has no variables, which threads would share; the tests of the crates for Rust,
-where there is cargo, each way that they find the library; those of the Python module, where there is pytest; a wheel in an environment
-of its own, where there are setuptools; and the programs of docs/LIBRARY.md.
+growth of memory is refused once, and pools that run it go from thread to thread. Then calls that name nothing, closed pools, rooms that
+are too small, and N events of random numbers (200,000; a long try is 10,000,000); and that the library has no variables, which threads
+would share.
+
+At last the crates for Rust, where there is cargo, each way that they find the library; the Python module, where there is pytest; a wheel
+in an environment of its own, where there are setuptools; and the programs of docs/LIBRARY.md.
 """
 from __future__ import annotations
 
@@ -39,9 +41,9 @@ def build(room: Path) -> None:
         archive.prove("library")
     except archive.Failed as why:
         sys.exit(str(why))
-    heap = LIBRARY / "heap.c"
-    for source, more in (("examples/branches", [heap]), ("tests/texts", [heap]), ("tests/misuse", [heap]), ("tests/refused", [])):
+    for source in "examples/branches", "tests/texts", "tests/misuse", "tests/refused", "tests/threads":
         to = room / Path(source).name
+        more = [] if source == "tests/refused" else [LIBRARY / "heap.c"]
         words = ["cc", *SANITIZED, "-I", LIBRARY / "include", "-o", to, LIBRARY / f"{source}.c", *more, ARCHIVE]
         ran = subprocess.run(words, stdout=subprocess.PIPE, stderr=subprocess.STDOUT, text=True)
         if ran.returncode:
@@ -81,7 +83,8 @@ def try_wheel(room: Path) -> tuple[int, int]:
         print("library: no wheel is tried, since setuptools are missing (packages: python3-venv, python3-setuptools, python3-wheel)")
         return 0, 0
     made, own = room / "made", {it: value for it, value in os.environ.items() if it != "HUGEPOOL_LIBRARY"}
-    given = ["PROGRAM=/bin/true", "PROVED=/dev/null", "VERSION=0", f"ARCHIVE={ARCHIVE}", f"BUILD={made}", f"PYTHON={python}", "COMMANDS=none"]
+    given = ["PROGRAM=/bin/true", "COMMANDS=none", "PROVED=/dev/null", "VERSION=0"]
+    given += [f"ARCHIVE={ARCHIVE}", f"BUILD={made}", f"PYTHON={python}"]
     trace = TOP / "examples" / "map-four-of-four.trace"
     replays = f"import hugepool, sys; sys.stdout.write(hugepool.replay(open({str(trace)!r}).read()))"
     steps = [
@@ -197,6 +200,8 @@ def try_trace(room: Path, trace: Path) -> Iterator[tuple[str, bool, str]]:
         (room / f"{trace.stem}.outcomes").write_bytes(wanted)
         code, told, complaint = run(room / "refused", trace, room / f"{trace.stem}.outcomes")
         yield "refused memory", code == 0 and told != b"0 growths refused\n", complaint.decode()
+        code, told, complaint = run(room / "threads", trace, room / f"{trace.stem}.outcomes")
+        yield "threads", code == 0 and (told != b"0 changes of threads\n") == bool(wanted), complaint.decode()
 
 
 def main() -> int:
