@@ -156,6 +156,16 @@ def variables(library: Path) -> list[str]:
     return [name for name, size in found if int(size, 16)]
 
 
+def try_exports(room: Path) -> tuple[int, int]:
+    """The shared library has the calls of library/abi.txt, and no other."""
+    listed = set(re.findall(r"^call \w+ (\w+)", (LIBRARY / "abi.txt").read_text(encoding="utf-8"), re.MULTILINE))
+    symbols = subprocess.run(["nm", "--dynamic", "--defined-only", share(room)], capture_output=True, text=True, check=True).stdout
+    exported = {line.split()[-1].split("@")[0] for line in symbols.splitlines()}
+    for it in sorted(listed ^ exported):
+        print(f"library: only one of library/abi.txt and the shared library has {it}")
+    return int(listed == exported), int(listed != exported)
+
+
 def try_variables(room: Path) -> tuple[int, int]:
     """The library has none: so pools may go from thread to thread, and don't meet. The same look finds some where there are some."""
     (room / "some.c").write_text("int some = 1; static _Thread_local int other; int *none(void) { return &other; }\n", encoding="utf-8")
@@ -222,7 +232,7 @@ def main() -> int:
             code, told, complaint = run(room / program, str(asked.events), seed)
             passed, failed = passed + (code == 0), failed + (code != 0)
             print(f"library: {told.decode() or complaint.decode()}", end="")
-        for tried in (try_variables, try_rust, try_python, try_wheel, try_page):
+        for tried in (try_exports, try_variables, try_rust, try_python, try_wheel, try_page):
             well, wrong = tried(room)
             passed, failed = passed + well, failed + wrong
     print(f"{passed} passed, {failed} failed")
