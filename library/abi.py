@@ -65,7 +65,8 @@ def lines_of(header: str) -> list[str]:
 
 def against(header: str, listed: list[str]) -> list[str]:
     """What a header doesn't keep."""
-    return [it for it in listed if it not in lines_of(header)]
+    kept = set(lines_of(header))
+    return [it for it in listed if it not in kept]
 
 
 def main(words: list[str]) -> int:
