@@ -151,6 +151,7 @@ try "PROVED stands beside the library" says_what_is_proved /usr/share/doc/libhug
 
 try "pip and venv install" installs python3-venv python3-pip
 try "the wheel installs in an environment of its own" installs_wheel
+try "PROVED stands in the wheel" says_what_is_proved /root/venv/lib/python3.*/site-packages/hugepool/PROVED
 try "there Python replays the traces, too" replays_all /root/venv/bin/python -c "$replay_in_python"
 
 try "man-db installs" installs man-db bsdextrautils
