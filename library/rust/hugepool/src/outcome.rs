@@ -4,8 +4,8 @@ use std::fmt;
 
 /// The words of phases by their numbers. 0 is no phase.
 pub const PHASES: [&str; 28] = [
-    "", "start", "look", "want", "locked", "missing", "changed", "abort", "taken", "settle", "committed", "restore", "found", "leave", "room",
-    "accounted", "enter", "head", "unslot", "extend", "unmap", "evict", "delete", "free", "size", "tail", "clear", "drop",
+    "", "start", "look", "want", "locked", "missing", "changed", "abort", "taken", "settle", "committed", "restore", "found", "leave",
+    "room", "accounted", "enter", "head", "unslot", "extend", "unmap", "evict", "delete", "free", "size", "tail", "clear", "drop",
 ];
 
 /// The words of answers by their numbers, which begin with 1.

@@ -87,8 +87,8 @@ pub struct Pool {
 }
 
 // SAFETY: What the handle points to is reached through it alone: an opened pool and a copy have each its own. A call uses the handle, that
-// memory and malloc, and nothing that belongs to a thread: the library has no variables, neither static nor of a thread, which its tests look
-// at. So calls may be made by one thread after another, and whoever moves a pool orders them.
+// memory and malloc, and nothing that belongs to a thread: the library has no variables, of a thread or of the process (its tests look at
+// that). So calls may be made by one thread after another, and whoever moves a pool orders them.
 unsafe impl Send for Pool {}
 
 impl Pool {

@@ -96,8 +96,8 @@ fn faults_are_told() {
 
 #[test]
 fn a_line_has_one_spelling() {
-    let none = ["step", "step +1", "step 01", "step 1 ", " step 1", "step  1", "step 1\n", "step -1", "step 1_0", "begin 1 trunc 0", "step 4294967296"];
-    for line in none {
+    let none = ["step", "step +1", "step 01", "step 1 ", " step 1", "step  1", "step 1\n", "step -1", "step 1_0"];
+    for line in none.into_iter().chain(["begin 1 trunc 0", "step 4294967296"]) {
         assert!(line.parse::<Event>().is_err(), "{line:?}");
     }
     assert!(Event::try_from(EventWords { kind: 5, ..EventWords::default() }).is_err());
