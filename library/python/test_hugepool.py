@@ -1,4 +1,6 @@
 """Tries the module on the traces of examples/: run it with pytest, and HUGEPOOL_LIBRARY where the library isn't installed."""
+from __future__ import annotations
+
 import copy
 import ctypes
 import gc
@@ -52,6 +54,34 @@ def test_outcomes_are_those_of_a_replay(trace):
     assert hugepool.replay(trace.read_bytes()) == wanted
     assert hugepool.check(trace.read_bytes()) == len(items)
     assert [str(it) for it in items] == trace.read_text().splitlines()[1:]
+
+
+def written(name: str, words: ctypes.Structure) -> str | None:
+    """The line that the library itself writes of an event or an outcome, if it is one."""
+    room, needed = ctypes.create_string_buffer(56), ctypes.c_size_t()
+    write = ctypes.CDLL(hugepool._library._path())[f"hugepool_write_{name}"]
+    code = write(ctypes.byref(words), room, ctypes.c_size_t(56), ctypes.byref(needed))
+    return room.raw[: needed.value].decode() if code == 0 else None
+
+
+def test_lines_are_those_that_the_library_writes():
+    """Of each outcome and each event, also of those that no trace has."""
+    counts = {}
+    for kind, field in enumerate([None, "phase", "task", "answer", None, "frames", "refusal"]):
+        for number in range(40):
+            outcome = hugepool.Outcome.from_buffer_copy(bytes(40))
+            outcome._kind, outcome._page, outcome._word = kind, 7 * (kind == 3), 1 << 63 if kind == 3 else 0
+            if field:
+                setattr(outcome, f"_{field}", number)
+            if line := written("outcome", outcome):
+                assert str(outcome) == line
+                counts[kind] = counts.get(kind, 0) + 1
+    assert counts == {0: 40, 1: 27, 2: 40, 3: 14, 4: 40, 5: 40, 6: 4}
+    for kind in hugepool.EventKind:
+        for op in Op:
+            event = Event(kind, 4294967295, op, 1, 2, 3, 4, (1 << 64) - 1)
+            assert str(event) == written("event", event) and str(parse(str(event))) == str(event)
+    assert written("event", BAD) is None
 
 
 def test_a_bad_line_is_told():

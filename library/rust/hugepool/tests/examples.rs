@@ -94,6 +94,38 @@ fn faults_are_told() {
     assert_eq!("pool 0 1 1 1".parse::<Sizes>(), Err(Fault::NoSuch));
 }
 
+/// The line that the library itself writes of an outcome.
+fn written(words: OutcomeWords) -> Option<String> {
+    let (mut room, mut needed) = ([0; 56], 0);
+    // SAFETY: all are there, and apart.
+    let code = unsafe { hugepool_sys::hugepool_write_outcome(&words, room.as_mut_ptr(), room.len(), &mut needed) };
+    (code == 0).then(|| String::from_utf8_lossy(&room[..needed]).into_owned())
+}
+
+/// Of each outcome, also of those that no trace has.
+#[test]
+fn lines_are_those_that_the_library_writes() {
+    let mut counts = [0; 7];
+    for kind in 0..7 {
+        for number in 0..40 {
+            let none = OutcomeWords { kind, ..OutcomeWords::default() };
+            let words = match kind {
+                1 => OutcomeWords { phase: number, ..none },
+                2 => OutcomeWords { task: number, ..none },
+                3 => OutcomeWords { answer: number, page: 7, word: 1 << 63, ..none },
+                5 => OutcomeWords { frames: number, ..none },
+                6 => OutcomeWords { refusal: number, ..none },
+                _ => none,
+            };
+            if let Some(line) = written(words) {
+                assert_eq!(Outcome::from(words).to_string(), line);
+                counts[kind as usize] += 1;
+            }
+        }
+    }
+    assert_eq!(counts, [40, 27, 40, 14, 40, 40, 4]);
+}
+
 #[test]
 fn a_line_has_one_spelling() {
     let none = ["step", "step +1", "step 01", "step 1 ", " step 1", "step  1", "step 1\n", "step -1", "step 1_0"];
