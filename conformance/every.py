@@ -17,7 +17,7 @@ from collections import Counter
 from itertools import product
 
 from compare import tested
-from schedules import asked_of, facts_of, holds, opening, read_script, search, turns
+from schedules import asked_of, counted_of, facts_of, holds, opening, read_script, search, turns
 
 # denials and kills
 BUDGETS = ((0, 0), (1, 0), (0, 1))
@@ -101,7 +101,7 @@ def meets(script, budget, events, question):
         if len(there) != 1:
             return False
         ((place, answer),) = there
-        met |= facts_of(script, place, answer, asked=asked)
+        met |= facts_of(script, place, answer) | counted_of(script, place, answer, asked)
     return holds(question, met | facts_of(script, place, ends=not list(turns(script, place))))
 
 
@@ -178,7 +178,8 @@ def compare(program, text, dice, most, asked):
     """The differences on one script. Counts what was asked."""
     script = read_script(text)
     for budget in BUDGETS:
-        least, states = search(script, budget, most)
+        known = {}
+        least, states = search(script, budget, most, known=known)
         if least is None:
             asked["searches left out, too large"] += 1
             continue
@@ -186,7 +187,7 @@ def compare(program, text, dice, most, asked):
         for question in questions(dice, script, least):
             ((first, *_), *_) = question
             alone = kind_of(question) in ("answer", "final", "blocked", "meet")
-            events = least.get(first) if alone else search(script, budget, 100 * most, question)[0].get(None)
+            events = least.get(first) if alone else search(script, budget, 100 * most, question, known)[0].get(None)
             asked[f"{kind_of(question)}, {'never' if events is None else 'met'}"] += 1
             if what := difference(program, text, budget, question, events):
                 yield f"denials and kills {budget}, {' '.join(word for it in question for word in option(it))}: {what}"

