@@ -80,21 +80,6 @@ class Check:
         """Whether the prover reached a verdict: it neither stopped before nor ran into a limit."""
         return self.is_read and (self.is_proved or bool(re.search(r"^logic=not-proved", self.output, re.M)))
 
-    @property
-    def is_compiled(self) -> bool:
-        """Whether a check that was to prove no function found no error."""
-        return bool(re.search(r"^only=0 proved=0$", self.output, re.M))
-
-    def codes(self) -> set[str]:
-        """The codes of the compiler's errors."""
-        return set(re.findall(r"^\S+:\d+:\d+: error\[([\w-]+)\]: ", self.output, re.M))
-
-    def first_words(self) -> str:
-        """Why there is no verdict, in one line."""
-        said = [line for line in self.output.split("\n") if ERROR.match(line) or line.startswith(("rattle: ", "error"))]
-        said.sort(key=lambda line: "specs/" not in line.split(" ")[0])
-        return (said or self.output.strip().split("\n")[-1:])[0][:200]
-
     def of(self, function: Function) -> list[Told]:
         """The lines of a function and of its closures."""
         return [it for path, it in self.functions.items() if is_of(function, path)]
@@ -139,15 +124,6 @@ def read(crate: str, output: str) -> Check:
     return Check(crate, output, functions, items, errors)
 
 
-def begin_copy(top: Path, name: str, room: Path) -> list[str]:
-    """Begins a copy of a repository: its list of a crate and of those below it, which it returns, the crate last."""
-    crates = crates_of(top)
-    names = [*sorted(below(name, crates)), name]
-    (room / "crates.txt").write_text("".join(f"{it}: {' '.join(crates[it])}\n" for it in names), encoding="utf-8")
-    shutil.copyfile(top / "HANDLES", room / "HANDLES")
-    return names
-
-
 def link_or_copy(source: str, to: str) -> None:
     """Libraries are only read, so a link to each file does; where there are none, a copy."""
     try:
@@ -162,7 +138,10 @@ class Scratch:
     def __init__(self, top: Path, name: str, room: Path) -> None:
         self.name, self.top, self.crate, self.folder = name, room, top / "crates" / name, room / "crates" / name
         self.changed, self.seconds, self.checks = {}, 0.0, 0
-        *low, _ = names = begin_copy(top, name, room)
+        crates = crates_of(top)
+        *low, _ = names = [*sorted(below(name, crates)), name]
+        (room / "crates.txt").write_text("".join(f"{it}: {' '.join(crates[it])}\n" for it in names), encoding="utf-8")
+        shutil.copyfile(top / "HANDLES", room / "HANDLES")
         for it, part in product(names, PARTS):
             bring(top / "crates" / it / part, room / "crates" / it / part)
         for it in low:
@@ -180,18 +159,22 @@ class Scratch:
                 file.unlink()
         self.changed = dict(texts.changed)
 
-    def check(self, texts: Texts, jobs: int = 1, is_to_prove: bool = True) -> Check:
-        """Checks the copy with these texts, or only compiles it."""
+    def check(self, texts: Texts, jobs: int) -> Check:
+        """Checks the copy with these texts."""
         self.write(texts)
-        words = ["rt", "check", "--jobs", str(jobs), *([] if is_to_prove else ["--only", ""])]
-        self.checks += is_to_prove
-        return read(self.name, self.output(words, self.folder))
+        self.checks += 1
+        return read(self.name, self.output(["rt", "check", "--jobs", str(jobs)], self.folder))
+
+    def compile(self, texts: Texts) -> set[str]:
+        """The codes of the compiler's errors, where the copy has these texts."""
+        self.write(texts)
+        return set(re.findall(r"^\S+:\d+:\d+: error\[([\w-]+)\]: ", self.output(["rt", "check", "--only", ""], self.folder), re.M))
 
     def must_fail(self, mutants: list[Mutant]) -> str:
         """What the toolchain says of these mutants of the crate as it stands."""
         self.write(Texts(self.crate))
         for it in mutants:
-            file = next(self.crate.glob(f"*/{it.edit.name}.edit"))
+            file = next(self.crate.glob(f"*/{it.name}.edit"))
             bring(file, self.folder / "must-fail" / file.name)
         self.checks += len(mutants)
         return self.output(["rt", "must-fail", self.name], self.top)

@@ -9,8 +9,10 @@ The sources are in the formatter's layout, so an item ends with the brace below 
 from __future__ import annotations
 
 import re
-from dataclasses import dataclass
+from dataclasses import dataclass, replace
+from functools import cache
 from pathlib import Path, PurePosixPath
+from typing import Iterator
 
 FUNCTION = re.compile(r"^( *)(?:pub(?:\([^)]*\))? )?(?:const )?(?:unsafe )?(?:extern \"C\" )?fn (\w+)")
 IMPL = re.compile(r"^( *)(?:unsafe )?impl\b(.*)")
@@ -39,13 +41,6 @@ def without_parameters(text: str) -> str:
     return ""
 
 
-def owner_of(head: str) -> str:
-    """What the prover's lines call an impl: the type, or the type and the trait in one word."""
-    head = without_parameters(head.strip()).split(" {")[0].split(" where ")[0]
-    trait, is_trait, of = head.partition(" for ")
-    return last_name(of) + last_name(trait) if is_trait else last_name(trait)
-
-
 def end_of(lines: list[str], first: int, indent: str) -> int:
     """The line at which an item that begins at this line ends."""
     depth = 0
@@ -62,15 +57,24 @@ def end_of(lines: list[str], first: int, indent: str) -> int:
 
 @dataclass(frozen=True)
 class Function:
-    """A function: the module of its file, the impl or the trait that it stands in, if any, and its name."""
+    """A function: the module that it stands in, the type and the trait of its impl or its trait, if any, and its name."""
 
     module: tuple[str, ...]
-    owner: str | None
-    is_of_trait: bool
+    type: str | None
+    trait: str | None
     name: str
 
     def __str__(self) -> str:
         return f"{self.owner}::{self.name}" if self.owner else self.name
+
+    @property
+    def owner(self) -> str:
+        """What the prover's lines call its impl: the type, or the type and the trait in one word."""
+        return (self.type or "") + (self.trait or "")
+
+    @property
+    def is_of_trait(self) -> bool:
+        return bool(self.type and self.trait)
 
     def is_called(self, path: str) -> bool:
         """Whether a verdict's path below the crate is this function's. A method stands where its type is declared."""
@@ -83,22 +87,39 @@ class Function:
         return bool(above) and bool(re.fullmatch(re.escape(self.owner) + more, above[-1]))
 
 
+@dataclass(frozen=True)
+class Block:
+    """An impl, a trait or a module: its lines, counted from 0, and its names."""
+
+    first: int
+    last: int
+    type: str | None = None
+    trait: str | None = None
+    module: str | None = None
+
+
+def blocks(lines: list[str]) -> Iterator[Block]:
+    for at, line in enumerate(lines):
+        if made := IMPL.match(line):
+            head = without_parameters(made[2].strip()).split(" {")[0].split(" where ")[0]
+            trait, is_of, kind = head.partition(" for ")
+            yield Block(at, end_of(lines, at, made[1]), last_name(kind or trait), last_name(trait) if is_of else None)
+        elif made := TRAIT.match(line):
+            yield Block(at, end_of(lines, at, made[1]), trait=made[2])
+        elif made := MODULE.match(line):
+            yield Block(at, end_of(lines, at, made[1]), module=made[2])
+
+
+@cache
 def functions(path: str, text: str) -> list[tuple[Function, int, int]]:
     """The functions of a file, with their first and last lines, counted from 0."""
-    lines, found, modules, impls = text.split("\n"), [], [], []
-    for at, line in enumerate(lines):
-        modules = [it for it in modules if it[1] >= at]
-        impls = [it for it in impls if it[1] >= at]
-        if made := IMPL.match(line):
-            impls.append((owner_of(made[2]), end_of(lines, at, made[1]), " for " in made[2]))
-        elif made := TRAIT.match(line):
-            impls.append((made[2], end_of(lines, at, made[1]), False))
-        elif made := MODULE.match(line):
-            modules.append((made[2], end_of(lines, at, made[1])))
-        elif made := FUNCTION.match(line):
-            module = (*module_of(path), *(name for name, _ in modules))
-            owner, _, is_of_trait = impls[-1] if impls else (None, at, False)
-            found.append((Function(module, owner, is_of_trait, made[2]), at, end_of(lines, at, made[1])))
+    lines, found = text.split("\n"), []
+    around = list(blocks(lines))
+    for at, made in ((at, made) for at, line in enumerate(lines) if (made := FUNCTION.match(line))):
+        outer = [it for it in around if it.first < at <= it.last]
+        module = (*module_of(path), *(it.module for it in outer if it.module))
+        of = next((it for it in reversed(outer) if not it.module), Block(at, at))
+        found.append((Function(module, of.type, of.trait, made[2]), at, end_of(lines, at, made[1])))
     return found
 
 
@@ -143,21 +164,15 @@ class Pair:
 
 
 @dataclass(frozen=True)
-class Edit:
-    """A mutant's name, its pairs in their order, and the compiler's error that it must cause, if any."""
+class Mutant:
+    """A mutant's name, its pairs in their order, and the compiler's error that it must cause, if any; the functions that it changes, and
+    whether it changes bodies alone, so that no other function can fail because of it."""
 
     name: str
     pairs: tuple[Pair, ...]
     error: str | None = None
-
-
-@dataclass(frozen=True)
-class Mutant:
-    """An edit, the functions that it changes, and whether it changes bodies alone, so that no other function can fail because of it."""
-
-    edit: Edit
-    functions: frozenset[Function]
-    is_in_bodies: bool
+    functions: frozenset[Function] = frozenset()
+    is_in_bodies: bool = True
 
 
 @dataclass(frozen=True)
@@ -169,8 +184,8 @@ class Result:
     why: str
 
 
-def read(file: Path) -> Edit:
-    """The edit that a file spells."""
+def read(file: Path) -> Mutant:
+    """The mutant that a file spells, without what it changes."""
     path = old = error = None
     pairs = []
     for line in file.read_text(encoding="utf-8").split("\n"):
@@ -191,7 +206,7 @@ def read(file: Path) -> Edit:
             raise BadEdit(f"a line begins with none of 'error: ', 'file: ', 'old: ' and 'new:': {line[:60]}")
     if old is not None or not pairs:
         raise BadEdit("it lacks a line 'old:' or 'new:'")
-    return Edit(file.stem, tuple(pairs), error)
+    return Mutant(file.stem, tuple(pairs), error)
 
 
 class Texts:
@@ -209,10 +224,10 @@ class Texts:
         except OSError as error:
             raise BadEdit(f"{path}: {error.strerror}") from None
 
-    def with_edit(self, edit: Edit) -> Texts:
-        """The texts with this edit too."""
+    def with_pairs(self, *pairs: Pair) -> Texts:
+        """The texts with these replacements too."""
         after = Texts(self.crate, self.changed)
-        for pair in edit.pairs:
+        for pair in pairs:
             text = after.get(pair.path)
             if text.count(pair.old) != 1:
                 raise BadEdit(f"an old text stands {text.count(pair.old)} times in {pair.path}, and not once: {pair.old.strip()[:80]}")
@@ -220,18 +235,18 @@ class Texts:
         return after
 
 
-def mutant_of(edit: Edit, crate: Path) -> Mutant:
-    """The functions that an edit of a crate changes. A text of specs/ or proofs/ belongs to no function."""
+def placed(mutant: Mutant, crate: Path) -> Mutant:
+    """The mutant with the functions that it changes. A text of specs/ or proofs/ belongs to no function."""
     texts, found, is_plain = Texts(crate), set(), True
-    for pair in edit.pairs:
+    for pair in mutant.pairs:
         before = texts.get(pair.path)
-        texts = texts.with_edit(Edit(edit.name, (pair,)))
+        texts = texts.with_pairs(pair)
         at = before.find(pair.old)
         part = (pair.path, before, at, at + len(pair.old))
         is_source = pair.path.endswith(".rt")
         found |= functions_in(*part) if is_source else set()
         is_plain = is_plain and is_source and is_in_bodies(*part)
-    return Mutant(edit, frozenset(found), is_plain)
+    return replace(mutant, functions=frozenset(found), is_in_bodies=is_plain)
 
 
 def mutants_of(crate: Path) -> tuple[list[Mutant], list[Result]]:
@@ -243,11 +258,11 @@ def mutants_of(crate: Path) -> tuple[list[Mutant], list[Result]]:
                 raise BadEdit("its name ends neither in .edit nor, if it is only to be read, in .md")
             if file.stem in names:
                 raise BadEdit("an edit of the same name stands in another folder")
-            edit = read(file)
-            if bool(edit.error) != (file.parent.name == NOT_COMPILED):
+            mutant = read(file)
+            if bool(mutant.error) != (file.parent.name == NOT_COMPILED):
                 raise BadEdit(f"a line 'error: CODE' stands in the edits of {NOT_COMPILED}/, and only there")
             names.add(file.stem)
-            found.append(mutant_of(edit, crate))
+            found.append(placed(mutant, crate))
         except (BadEdit, UnicodeDecodeError) as error:
             bad.append(Result(file.stem, False, f"BAD EDIT: {error}"))
     return found, bad

@@ -5,8 +5,8 @@ usage: ./check mutants [CRATE ..] [--all] [--each]
 
 Of crates that are named it tries all mutants. Without a name it tries those of each crate of which a commit since the time in
 gate/tried.txt changed a file in src/, specs/, edits/, must-fail/ or must-not-compile/, or that has such a change uncommitted. With --all it
-tries all, with the right body of each function as a control. Where all of a crate are refused, and none of its files is changed, the time
-at which the trial began stands in that file then: first that of all, and behind it those of crates that were tried later.
+tries all. Where all of a crate are refused, and none of its files is changed, the time at which the trial began stands in that file then:
+first that of all, and behind it those of crates that were tried later.
 
 The mutants of a crate stand in its folders must-fail/ (those that the toolchain's gate tries too), edits/ and must-not-compile/
 (those that the compiler refuses, with the error that they name). One check tries all wrong bodies of plain functions, as siblings of
@@ -56,16 +56,16 @@ def try_in_place(scratch: Scratch, mutants: list[Mutant]) -> list[Result]:
     with ONE_AT_A_TIME:
         told = dict(TOLD.findall(scratch.must_fail(mutants))) if mutants else {}
     is_refused = lambda said: said.startswith(REFUSED) and BY_A_NAME not in said
-    said = {it.edit.name: told.get(it.edit.name, "NOT TOLD: rt must-fail says nothing of it") for it in mutants}
+    said = {it.name: told.get(it.name, "NOT TOLD: rt must-fail says nothing of it") for it in mutants}
     return [Result(name, is_refused(it), "refused" if is_refused(it) else f"NOT REFUSED FOR ITSELF: {it}") for name, it in said.items()]
 
 
 def try_to_compile(crate: Path, scratch: Scratch, mutant: Mutant) -> Result:
     """Tries a mutant that must not compile."""
-    check, code = scratch.check(Texts(crate).with_edit(mutant.edit), is_to_prove=False), mutant.edit.error
-    is_refused = not check.is_compiled and code in check.codes()
-    why = "IT COMPILES" if check.is_compiled else f"NOT REFUSED BY error[{code}]: {check.first_words()}"
-    return Result(mutant.edit.name, is_refused, "refused by the compiler" if is_refused else why)
+    codes = scratch.compile(Texts(crate).with_pairs(*mutant.pairs))
+    is_refused = mutant.error in codes
+    why = "refused by the compiler" if is_refused else f"NOT REFUSED BY error[{mutant.error}], but by {', '.join(codes) or 'none'}"
+    return Result(mutant.name, is_refused, why)
 
 
 @dataclass
@@ -87,19 +87,18 @@ class Tried:
 class Trial:
     """The trial of one crate's mutants. `room` is where copies are made, `jobs` how many processors it may use."""
 
-    def __init__(self, top: Path, name: str, room: Path, jobs: int, is_each_controlled: bool = False) -> None:
+    def __init__(self, top: Path, name: str, room: Path, jobs: int) -> None:
         self.top, self.crate, self.room, self.jobs = top, top / "crates" / name, room, jobs
-        self.is_each_controlled = is_each_controlled
         self.tried = Tried(name, [])
 
     def run(self) -> Tried:
         mutants, self.tried.results = mutants_of(self.crate)
         scratch = Scratch(self.top, self.tried.name, Path(tempfile.mkdtemp(prefix=f"{self.tried.name}-", dir=self.room)))
-        to_prove = [it for it in mutants if not it.edit.error]
-        refused = self.try_siblings(scratch, family_of(self.crate, to_prove, self.is_each_controlled))
+        to_prove = [it for it in mutants if not it.error]
+        refused = self.try_siblings(scratch, family_of(self.crate, to_prove))
         left = [it for it in to_prove if it not in refused]
         self.tried.results += try_in_place(scratch, left)
-        self.tried.results += [try_to_compile(self.crate, scratch, it) for it in mutants if it.edit.error]
+        self.tried.results += [try_to_compile(self.crate, scratch, it) for it in mutants if it.error]
         self.tried.checks, self.tried.seconds = scratch.checks, scratch.seconds
         return self.tried
 
@@ -125,19 +124,19 @@ class Trial:
         found = {it.mutant for it in family.siblings if it.mutant and check.is_refused_of(it.function) and it.place.function not in faulty}
         why = "CONTROL REFUSED: the right body isn't proved as a sibling"
         self.tried.results += [Result(f"{it.place.function}", False, why) for it in wrong]
-        self.tried.results += [Result(it.edit.name, True, "refused") for it in found]
+        self.tried.results += [Result(it.name, True, "refused") for it in found]
         self.tried.controls += len(controls) - len(wrong)
         return found
 
 
-def try_crates(top: Path, names: Iterable[str], is_each_controlled: bool) -> Iterator[Tried]:
+def try_crates(top: Path, names: Iterable[str]) -> Iterator[Tried]:
     """Tries the mutants of these crates side by side, those with the most first, and gives each crate's results as it ends."""
     lanes = os.cpu_count() or 1
     numbers = {it: len(mutants_of(top / "crates" / it)[0]) for it in names}
     jobs = max(1, min(MOST_JOBS, lanes // max(1, len(numbers))))
     with tempfile.TemporaryDirectory(prefix="mutants-") as name, ThreadPoolExecutor(max(1, lanes // jobs)) as pool:
         longest_first = sorted(numbers, key=numbers.get, reverse=True)
-        begun = [pool.submit(Trial(top, it, Path(name), jobs, is_each_controlled).run) for it in longest_first]
+        begun = [pool.submit(Trial(top, it, Path(name), jobs).run) for it in longest_first]
         for it in as_completed(begun):
             yield it.result()
 
@@ -197,7 +196,7 @@ def try_all(picked: set[str], is_all: bool, is_each_told: bool) -> int:
     if not build_libraries(sorted(picked)):
         print("check: the libraries below these crates aren't proved, so no mutant was tried")
         return 1
-    for tried in try_crates(TOP, picked, is_all):
+    for tried in try_crates(TOP, picked):
         print("\n".join([tried.line(), *lines_of(tried, is_each_told)]), flush=True)
         wrong = lines_of(tried, False)
         refused, faults = refused + len(tried.results) - len(wrong), faults + wrong

@@ -240,7 +240,7 @@ def edits_of(crate: str) -> dict[Function, list[str]]:
     found: dict[Function, list[str]] = {}
     for it in mutants_of(CRATES / crate)[0]:
         for function in it.functions:
-            found.setdefault(function, []).append(it.edit.name)
+            found.setdefault(function, []).append(it.name)
     return found
 
 
@@ -254,7 +254,7 @@ def index() -> str:
         out.append("| Phase | Row | Function | Lemma | Mutants |\n|---|---|---|---|---|\n")
         for phase in phases(operation):
             name = function_of(operation, phase)
-            own = edits[crate].get(Function((operation,), None, False, name), [])
+            own = edits[crate].get(Function((operation,), None, None, name), [])
             tried = ", ".join(f"`{it}`" for it in sorted(own))
             cells = [phase.lower(), name_of_row(operation, phase, rows), f"`{operation}::{name}`", lemma_of(operation), tried]
             out.append(f"| {' | '.join(cells)} |\n")

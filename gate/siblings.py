@@ -4,8 +4,8 @@ Beside each mutated function stands, at the end of its file, each of its wrong b
 attributes and a copy of the proof folder of NAME. Nobody calls a sibling, so one that is refused has no other function refused.
 
 As a control the right body stands there too, as NAME_sibling_0, and has to be proved: then it isn't the copying that has a body refused.
-A function with neither proofs nor attributes has a control only where each function is to have one: its copy is the same text with
-nothing beside it, and the search proves it as it proves the original.
+A function with neither proofs nor attributes has no control: its copy is the same text with nothing beside it, and the search proves it
+as it proves the original.
 
 A sibling that calls NAME calls the original. So a recursive wrong body rests on the right one's contract, as it does where the
 prover checks one call of a recursive function. A mutant that is wrong only in how its recursion ends isn't refused as a sibling; it is
@@ -69,16 +69,6 @@ class Family:
         return family_of_siblings(crate, [it for it in kept if it.place.function in wanted])
 
 
-def heads_around(lines: list[str], at: int) -> list[int]:
-    """The first lines of the impls, traits and modules in which a line stands."""
-    found = []
-    for n, line in enumerate(lines[:at]):
-        begun = edit.IMPL.match(line) or edit.TRAIT.match(line) or edit.MODULE.match(line)
-        if begun and edit.end_of(lines, n, begun[1]) >= at:
-            found.append(n)
-    return found
-
-
 def begin_of(lines: list[str], first: int) -> int:
     """The line at which the comments and attributes above a function begin."""
     while first and (above := lines[first - 1].strip()) and above != "}" and not above.endswith("{"):
@@ -92,11 +82,12 @@ def place_of(function: Function, path: str, text: str) -> Place | None:
     if len(same) != 1 or function.is_of_trait:
         return None
     (first, last), lines = same[0], text.split("\n")
-    heads = heads_around(lines, first)
-    if len(heads) > 1 or heads and not edit.IMPL.match(lines[heads[0]]):
+    around = [it for it in edit.blocks(lines) if it.first < first <= it.last]
+    if len(around) > 1 or around and not around[0].type:
         return None
-    brace = next((n for n in range(heads[0], first) if lines[n].endswith("{")), first) if heads else 0
-    head = tuple(lines[heads[0]:brace + 1]) if heads else ()
+    begin = around[0].first if around else 0
+    brace = next((n for n in range(begin, first) if lines[n].endswith("{")), first) if around else 0
+    head = tuple(lines[begin:brace + 1]) if around else ()
     return Place(function, path, begin_of(lines, first), first, last, head)
 
 
@@ -111,22 +102,22 @@ def sibling_of(place: Place, text: str, number: int, mutant: Mutant | None) -> S
     return Sibling(name, place, mutant, "\n".join([*above, first, *lines[place.first + 1:place.last + 1]]))
 
 
-def siblings_of(crate: Path, function: Function, mutants: list[Mutant], is_controlled: bool) -> list[Sibling]:
+def siblings_of(crate: Path, function: Function, mutants: list[Mutant]) -> list[Sibling]:
     """The control and the wrong bodies of a function, or nothing where it can't have siblings."""
-    path, own = mutants[0].edit.pairs[0].path, Texts(crate)
+    path, own = mutants[0].pairs[0].path, Texts(crate)
     place = place_of(function, path, own.get(path))
     if place is None:
         return []
-    wrong = [sibling_of(place, own.with_edit(it.edit).get(path), n, it) for n, it in enumerate(mutants, 1)]
+    wrong = [sibling_of(place, own.with_pairs(*it.pairs).get(path), n, it) for n, it in enumerate(mutants, 1)]
     control = sibling_of(place, own.get(path), 0, None)
     has_more = control.text.lstrip().startswith("#[") or proofs_of(crate, function) is not None
-    return [control, *wrong] if is_controlled or has_more else wrong
+    return [control, *wrong] if has_more else wrong
 
 
 def is_plain(mutant: Mutant) -> bool:
     """Whether a mutant changes the body of one function alone."""
-    is_in_one_file = len({it.path for it in mutant.edit.pairs}) == 1
-    return mutant.is_in_bodies and not mutant.edit.error and len(mutant.functions) == 1 and is_in_one_file
+    is_in_one_file = len({it.path for it in mutant.pairs}) == 1
+    return mutant.is_in_bodies and not mutant.error and len(mutant.functions) == 1 and is_in_one_file
 
 
 def proofs_of(crate: Path, function: Function) -> Path | None:
@@ -171,12 +162,12 @@ def family_of_siblings(crate: Path, siblings: Iterable[Sibling]) -> Family:
     return Family(siblings, texts)
 
 
-def family_of(crate: Path, mutants: list[Mutant], is_each_controlled: bool) -> Family:
-    """The siblings of all mutants that can have one, with a control of each function or only where copying adds something."""
+def family_of(crate: Path, mutants: list[Mutant]) -> Family:
+    """The siblings of all mutants that can have one, with a control of each function where copying adds something."""
     by_function: dict[Function, list[Mutant]] = {}
     for it in filter(is_plain, mutants):
         by_function.setdefault(next(iter(it.functions)), []).append(it)
-    families = (siblings_of(crate, function, several, is_each_controlled) for function, several in by_function.items())
+    families = (siblings_of(crate, function, several) for function, several in by_function.items())
     return family_of_siblings(crate, [it for family in families for it in family])
 
 
