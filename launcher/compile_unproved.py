@@ -1,11 +1,11 @@
 #!/usr/bin/env python3
 """Compiles a program without proof, keeps it, and runs it: what ./hugepool does where nothing was proved yet.
 
-usage: compile_unproved.py CRATE MOMENT SOURCES NOTICE [WORD ..]
+usage: compile_unproved.py CRATE MOMENT SOURCES [WORD ..]
 
 `rt try` compiles a program without proof, with checks at run time, runs it once and removes it. While the program runs, it lies in a
 folder below TMPDIR. A hard link to it, taken then, keeps it as out/unproved, so that a later call doesn't compile. The name of that file
-is not documented: where no such file is found, or it doesn't print what `rt try` printed, `rt try` itself runs the words.
+is not documented.
 """
 from __future__ import annotations
 
@@ -15,7 +15,6 @@ import sys
 import tempfile
 import time
 from pathlib import Path
-from typing import BinaryIO
 
 import building
 from building import BuildFailed, Interrupted, Line, SIGNALS, TOP
@@ -61,17 +60,17 @@ def follow(ran: subprocess.Popen, room: Path, to: Path, crate: str) -> bool:
     return is_taken
 
 
-def try_once(crate: str, words: list[str], room: Path, printed: BinaryIO, to: Path) -> bool:
-    """Has `rt try` compile the program and run it on the trace, and returns whether it was kept.
-
-    Besides the compiled program `rt try` has an interpreter; one step of that is enough here.
-    """
+def keep(crate: str, program: Path, room: Path) -> None:
+    """Has `rt try` compile the program and run it on the trace, and keeps it. Besides the compiled program `rt try` has an interpreter; one
+    step of that is enough here."""
+    # (a program that only replays reads no words)
+    words = ["rt", "try", "--steps", "1", "--", *([] if crate == "replay" else ["replay"])]
     (room / "trace").write_bytes(TRACE)
-    how = {"cwd": TOP / "crates" / crate, "env": {**os.environ, "TMPDIR": str(room)}, "stdout": printed}
+    how = {"cwd": TOP / "crates" / crate, "env": {**os.environ, "TMPDIR": str(room)}, "stdout": subprocess.DEVNULL}
     with open(room / "trace", "rb") as trace, open(room / "log", "w+", encoding="utf-8", errors="replace") as log:
-        ran = subprocess.Popen(["rt", "try", "--steps", "1", "--", *words], stdin=trace, stderr=log, **how)
+        ran = subprocess.Popen(words, stdin=trace, stderr=log, **how)
         try:
-            is_taken = follow(ran, room, to, crate)
+            is_taken = follow(ran, room, room / "new", crate)
         finally:
             ran.terminate()
             ran.wait()
@@ -81,53 +80,23 @@ def try_once(crate: str, words: list[str], room: Path, printed: BinaryIO, to: Pa
     SIGNALS.look()
     if ran.returncode:
         raise BuildFailed(f"{said}hugepool: the sources were refused")
-    return is_taken
+    if not is_taken:
+        raise BuildFailed("hugepool: the program was compiled, but can't be kept; ./hugepool build proves and builds it")
+    (room / "new").replace(program)
 
 
-def prints_the_same(program: Path, words: list[str], printed: bytes) -> bool:
-    """Whether the kept program does on the trace what `rt try` showed."""
-    ran = subprocess.run([program, *words], input=TRACE, capture_output=True, check=False)
-    return (ran.returncode, ran.stdout) == (0, printed)
-
-
-def keep(crate: str, program: Path) -> bool:
-    """Compiles the program, and returns whether it could be kept."""
-    # (a program that only replays reads no words)
-    words = [] if crate == "replay" else ["replay"]
-    with tempfile.TemporaryDirectory(prefix="unproved-", dir=program.parent) as name:
-        new = Path(name) / "new"
-        with open(Path(name) / "printed", "w+b") as printed:
-            is_taken = try_once(crate, words, Path(name), printed, new)
-            printed.seek(0)
-            is_kept = is_taken and prints_the_same(new, words, printed.read())
-        if is_kept:
-            new.replace(program)
-    return is_kept
-
-
-class NotKept(Exception):
-    """The program was compiled, but can't be kept."""
-
-
-def main(crate: str, moment: str, sources: str, notice: str, *words: str) -> int:
+def main(crate: str, moment: str, sources: str, *words: str) -> int:
     program = TOP / "crates" / crate / "out" / "unproved"
     SIGNALS.catch()
     try:
         with building.marked(program, float(moment), sources, list(words)):
-            if not keep(crate, program):
-                raise NotKept
+            with tempfile.TemporaryDirectory(prefix="unproved-", dir=program.parent) as name:
+                keep(crate, program, Path(name))
     except Interrupted:
         return building.INTERRUPTED
     except BuildFailed as why:
         print(why, file=sys.stderr)
         return building.FAILED
-    except NotKept:
-        if os.environ.get("HUGEPOOL") == "path":
-            building.say("the program was compiled, but can't be kept")
-            return building.FAILED
-        print(notice, file=sys.stderr, flush=True)
-        os.chdir(TOP / "crates" / "hugepool")
-        os.execvp("rt", ["rt", "try", "--", *words])
     os.execv(TOP / "hugepool", [str(TOP / "hugepool"), *words])
 
 

@@ -15,7 +15,6 @@ from __future__ import annotations
 
 import os
 import shutil
-import subprocess
 import sys
 import time
 from contextlib import contextmanager
@@ -27,7 +26,7 @@ from typing import Iterator
 
 import building
 from building import BuildFailed, Interrupted, SIGNALS, TOP, say
-from proving import PAUSE, Library, NotProved, Proving, Run, begin, is_from_nothing, with_chains
+from proving import Library, NotProved, Proving, Run, begin, is_from_nothing, with_chains
 
 CRATE = TOP / "crates" / "hugepool"
 PROGRAM = CRATE / "out" / "hugepool"
@@ -77,20 +76,10 @@ def weights() -> dict[str, tuple[float, float]]:
 
 def note_weights(proving: Proving) -> None:
     """Notes what each proof from nothing took."""
-    known = {name: (seconds, memory / MIB) for name, (seconds, memory) in weights().items()}
-    known |= {name: (seconds, memory / MIB) for name, (seconds, memory) in proving.took.items() if is_from_nothing(proving.logs, name)}
+    known = weights() | {name: took for name, took in proving.took.items() if is_from_nothing(proving.logs, name)}
     WEIGHTS[1].parent.mkdir(exist_ok=True)
-    WEIGHTS[1].write_text("".join(f"{name} {seconds:.0f} {memory:.0f}\n" for name, (seconds, memory) in known.items()), encoding="utf-8")
-
-
-def libraries_of(crates: list) -> list[Library]:
-    """The toolchain's crates as libraries to prove, the longest chain first."""
-    known, found = weights(), []
-    for it in crates:
-        seconds, memory = known.get(it.name, (UNKNOWN, 0.0))
-        below = frozenset(low.name for low in it.below())
-        found.append(Library(it.name, it.folder, below, seconds, memory or it.planned()))
-    return with_chains(found)
+    lines = (f"{name} {seconds:.0f} {memory / MIB:.0f}\n" for name, (seconds, memory) in known.items())
+    WEIGHTS[1].write_text("".join(lines), encoding="utf-8")
 
 
 @contextmanager
@@ -105,119 +94,89 @@ def locked(rt: ModuleType, crates: list) -> Iterator[None]:
             os.close(it)
 
 
-def plan(names: list[str], logs: Path, has_program: bool) -> tuple[Proving, ModuleType, list]:
-    """What there is to prove below these crates, and the program itself if that is asked for, by the toolchain's module."""
-    rt, crates = load(), []
+def prove_libraries(names: list[str], logs: Path, program: str = "") -> Proving:
+    """Proves and builds the libraries below these crates, over those that are built, and leaves the program, if one is named."""
+    shutil.rmtree(logs, ignore_errors=True)
+    logs.mkdir(parents=True)
+    rt, crates, known, libraries = load(), {}, weights(), []
     try:
         for name in names:
             top = rt.rtlib.Crate(str(TOP / "crates" / name), str(TOP), {})
-            crates += [it for it in [*top.below(), *([top] if has_program else [])] if it.name not in {other.name for other in crates}]
-        built = {it.name for it in crates if not (has_program and it.name in names) and it.is_built()}
-        return Proving(libraries_of(crates), built, rt.processors(), SHARE * rt.free(), logs), rt, crates
+            crates |= {it.name: it for it in [*top.below(), *([top] if name == program else [])] if it.name not in crates}
+        for it in crates.values():
+            seconds, memory = known.get(it.name, (UNKNOWN, 0.0))
+            libraries.append(Library(it.name, it.folder, frozenset(low.name for low in it.below()), seconds, memory or it.planned()))
+        built = {it.name for it in crates.values() if it.name != program and it.is_built()}
+        proving = Proving(with_chains(libraries), built, rt.processors(), SHARE * rt.free(), logs)
     except (Exception, SystemExit) as error:
         raise Unusable(str(error)) from error
+    last = [it for it in proving.left if it.name == program]
+    proving.left = [it for it in proving.left if it.name != program]
+    with locked(rt, list(crates.values())):
+        proving.prove()
+    proving.left = last
+    return proving
 
 
 def build_program(proving: Proving) -> None:
     """Has the toolchain prove the program over the libraries, and build it."""
     program = proving.left.pop()
     jobs, log = proving.jobs_that_fit(program, proving.processors), proving.logs / f"{program.name}.log"
-    words = ["rt", "run", "--jobs", str(jobs), "--", "--help"]
-    proving.follow(Run(program, jobs, begin(words, program.folder, log), log))
+    proving.follow(Run(program, jobs, begin(["rt", "run", "--jobs", str(jobs), "--", "--help"], program.folder, log), log))
     proving.prove()
-
-
-def build_alone(logs: Path) -> None:
-    """Has the toolchain do all of it."""
-    log = logs / "hugepool.log"
-    ran = begin(["rt", "run", "--", "--help"], str(CRATE), log)
-    try:
-        while ran.poll() is None:
-            SIGNALS.look()
-            time.sleep(PAUSE)
-        if ran.returncode:
-            SIGNALS.look()
-            raise NotProved("hugepool")
-    finally:
-        ran.terminate()
-        ran.wait()
-
-
-def empty(logs: Path) -> None:
-    shutil.rmtree(logs, ignore_errors=True)
-    logs.mkdir(parents=True)
 
 
 def build(logs: Path) -> None:
     """Proves and builds the program."""
-    empty(logs)
     try:
-        proving, rt, crates = plan(["hugepool"], logs, True)
+        proving = prove_libraries(["hugepool"], logs, "hugepool")
     except Unusable as why:
         say(f"proving one library after another, since the toolchain's module can't be used: {why}")
-        build_alone(logs)
+        alone = Library("hugepool", str(CRATE), frozenset(), UNKNOWN, MIB)
+        build_program(Proving([alone], set(), os.cpu_count() or 1, 1e12, logs))
         return
-    # (the program stands on all libraries)
-    program = next(it for it in proving.left if it.folder == str(CRATE))
-    proving.left.remove(program)
-    with locked(rt, crates):
-        proving.prove()
-    proving.left.append(program)
     build_program(proving)
     note_weights(proving)
 
 
-def build_libraries(names: list[str]) -> int:
-    """Proves and builds the libraries that these crates stand on."""
-    logs = TOP / "out" / "proving"
-    empty(logs)
-    SIGNALS.catch()
-    try:
-        proving, rt, crates = plan(names, logs, False)
-        with locked(rt, crates):
-            proving.prove()
-    except Unusable:
-        ran = [subprocess.run(["rt", "check", "--only", ""], cwd=TOP / "crates" / it, stdin=subprocess.DEVNULL) for it in names]
-        return int(any(it.returncode for it in ran))
-    except NotProved as name:
-        print(f"{said_of(logs, name)}hugepool: {name} is not proved", file=sys.stderr)
-        return building.FAILED
-    except Interrupted:
-        return building.INTERRUPTED
-    return 0
-
-
-def said_of(logs: Path, name: NotProved) -> str:
-    return (logs / f"{name}.log").read_text(encoding="utf-8", errors="replace")
-
-
 def build_marked(moment: float, sources: str, words: list[str]) -> None:
     """Builds the program, unless another call did so since this one looked."""
-    logs = CRATE / "out" / "proving"
+    began, logs = time.monotonic(), CRATE / "out" / "proving"
     with building.marked(PROGRAM, moment, sources, words):
-        try:
-            build(logs)
-        except NotProved as name:
-            raise BuildFailed(f"{said_of(logs, name)}hugepool: the build failed: {name} is not proved") from name
+        reporting(build, logs)
+    say(f"the program is proved and built, in {(time.monotonic() - began) / 60:.1f} min")
 
 
-def main(moment: str, sources: str, *words: str) -> int:
-    began = time.monotonic()
+def reporting(prove, *given) -> None:
+    """Does this, and shows what the prover said of what isn't proved. The last that is given are the logs."""
+    try:
+        prove(*given)
+    except NotProved as name:
+        said = (given[-1] / f"{name}.log").read_text(encoding="utf-8", errors="replace")
+        raise BuildFailed(f"{said}hugepool: the build failed: {name} is not proved") from name
+    except Unusable as why:
+        raise BuildFailed(f"hugepool: the toolchain's module can't be used: {why}") from why
+
+
+def main(words: list[str]) -> int:
+    if words[0] == "one":
+        return prove_one(*words[1:])
     SIGNALS.catch()
     try:
-        build_marked(float(moment), sources, list(words))
+        if words[0] == "libraries":
+            reporting(prove_libraries, words[1:], TOP / "out" / "proving")
+            return 0
+        build_marked(float(words[0]), words[1], words[2:])
     except Interrupted:
         say("the build was interrupted; what is proved is kept")
         return building.INTERRUPTED
     except BuildFailed as why:
         print(why, file=sys.stderr)
         return building.FAILED
-    say(f"the program is proved and built, in {(time.monotonic() - began) / 60:.1f} min")
-    if list(words) != ["build"]:
-        os.execv(PROGRAM, ["hugepool", *words])
+    if words[2:] != ["build"]:
+        os.execv(PROGRAM, ["hugepool", *words[2:]])
     return 0
 
 
 if __name__ == "__main__":
-    kinds = {"one": prove_one, "libraries": lambda *names: build_libraries(list(names))}
-    sys.exit(kinds[sys.argv[1]](*sys.argv[2:]) if sys.argv[1] in kinds else main(*sys.argv[1:]))
+    sys.exit(main(sys.argv[1:]))
