@@ -3,9 +3,9 @@
 
 A socket that keeps messages apart stands for the output, so that each write of the program is seen by itself. A replay tells what came
 of the lines that it has, while more may come. The most runs and races that may be asked for are made, and runs in shards
-(bench/explore-many.sh, with a stand-in for GNU parallel) are those of one exploration. Outcomes are coloured at a terminal, and nowhere else
-unless that is asked for; and in replays and explanations of all examples no other word is. Each command's help is held to what is told of
-the command elsewhere, and what is said of each wrong field of a line to what is to be said (reasons.py).
+(bench/explore-many.sh, with a stand-in for GNU parallel) are those of one exploration. Outcomes are coloured at a terminal, and nowhere
+else unless that is asked for. Helps tell the same of the same things. And what is said of each wrong field of a line is held to what is to
+be said (reasons.py).
 """
 from __future__ import annotations
 
@@ -25,9 +25,6 @@ import reasons
 from programs import TOP, is_proved, report, run, tested
 
 BOX = re.compile(r"<rect class='([^']*)' x='(\d+)' y='(\d+)' width='(\d+)' height='(\d+)'/>")
-STAY = re.compile(r"at \w+[^<]*</title><rect class='stay \w+' x='\d+' y='(\d+)' width='\d+' height='(\d+)'/>")
-TASK = re.compile(r"<title>line \d+: [^<]* of task (\d+) at ")
-NAME = re.compile(r"<text class='name' x='8' y='\d+'>(?:task (\d+)|pool)</text>")
 NUMBER = re.compile(r"<text class='at' x='(\d+)' y='\d+'>(\d+)</text>")
 # what begins and ends a colour
 COLOUR = re.compile(r"\x1b\[[0-9]*m")
@@ -38,8 +35,6 @@ WIDE = 28_000
 # what stands beside the events, and behind them
 BESIDE = 112
 EMPTY = "pool 1 1 1 1\n"
-# the answers of calls that did what they were to do
-GOOD = {"mapped", "word", "done"}
 # in the columns of task 2, of task 3 and of the pool what came of an event is wider than all else
 WORD = 2**64 - 1
 OUTCOMES = "".join(
@@ -95,23 +90,18 @@ def told_so_far(read: str, enough: int) -> int:
 PARALLEL = """#!/bin/bash
 [ "$1,$2,$3" = "--keep-order,--colsep, " ] || exit 9
 shift 3
-while read -r one two; do
-    line=${*//'{1}'/$one}
-    bash -c "${line//'{2}'/$two}" < /dev/null || exit 8
-done
+while read -r one two; do line=${*//'{1}'/$one}; bash -c "${line//'{2}'/$two}" < /dev/null || exit 8; done
 """
 
 
-def in_shards(script: str, seed: int, runs: int, shards: int, *options: str) -> str:
+def in_shards(*words: str) -> str:
     """What bench/explore-many.sh writes."""
     with tempfile.TemporaryDirectory(prefix="parallel-") as name:
         stand_in = Path(name) / "parallel"
         stand_in.write_text(PARALLEL, encoding="utf-8")
         stand_in.chmod(0o755)
-        own = {"env": {**os.environ, "PATH": f"{name}:{os.environ['PATH']}", "HUGEPOOL": "now"}, "stdin": subprocess.DEVNULL, "check": True}
-        words = [TOP / "examples" / script, seed, runs, shards, *options]
-        ran = subprocess.run([TOP / "bench" / "explore-many.sh", *map(str, words)], capture_output=True, text=True, **own)
-        return ran.stdout
+        own = {**os.environ, "PATH": f"{name}:{os.environ['PATH']}", "HUGEPOOL": "now"}
+        return subprocess.run([TOP / "bench" / "explore-many.sh", *words], stdin=subprocess.DEVNULL, capture_output=True, text=True, env=own).stdout
 
 
 def do_races_differ(script: str) -> bool:
@@ -159,35 +149,20 @@ def on_terminal(words: str, read: str, **variables: str) -> str:
         return shown_of(ran, read, ours, theirs).replace("\r\n", "\n")
 
 
-def painted(text: str) -> str:
-    """A replay or an explanation with colours where an outcome, a wait or a killed task is told: by what stands around the words."""
-    red, yellow = (lambda it: f"\x1b[31m{it[0]}\x1b[0m"), (lambda it: f"\x1b[33m{it[0]}\x1b[0m")
-    text = re.sub(rf"(?<=ended )(?!(?:{'|'.join(GOOD)})\b)\w+|(?<=refused )\w+|refused(?= \w)", red, text)
-    text = re.sub(r"(?<=^task \d )killed(?= mappings)|(?<=^task \d\d )killed(?= mappings)", red, text, flags=re.M)
-    return re.sub(r"\bblocked(?= (?:by )?\d)|(?<=\d )waits(?= (?:for|no more))", yellow, text)
-
-
 def colours() -> Iterator[tuple[str, bool]]:
-    """What is tried of colours."""
+    """When words are coloured. (Which words are is proved, and rows have some.)"""
     trace = example("calls-in-flight.trace")
     for command in ("replay", "explain", "explain --compact"):
-        plain = output(command, trace)
-        yield f"{command} is coloured at a terminal", on_terminal(command, trace) == painted(plain) != plain
-        yield "with an empty NO_COLOR, too", on_terminal(command, trace, NO_COLOR="") == painted(plain)
+        plain, coloured = output(command, trace), output(f"{command} --color always", trace)
+        yield f"{command} in colours says the same", COLOUR.sub("", coloured) == plain != coloured
+        yield f"{command} is coloured at a terminal", on_terminal(command, trace) == coloured
+        yield "with an empty NO_COLOR, too", on_terminal(command, trace, NO_COLOR="") == coloured
         for name, value in (("NO_COLOR", "1"), ("NO_COLOR", "0"), ("TERM", "dumb")):
             yield f"but not with {name}={value}", on_terminal(command, trace, **{name: value}) == plain
         yield "nor if that is asked for", on_terminal(f"{command} --color never", trace) == plain
-        asked = on_terminal(f"{command} --color always", trace, NO_COLOR="1", TERM="dumb")
-        yield "and everywhere if that is asked for", asked == output(f"{command} --color always", trace) == painted(plain)
-    yield "help isn't coloured", on_terminal("race --help", "") == output("race --help", "")
-    for command in ("replay --json", "explain --json", "draw", "check"):
+        yield "and everywhere if that is asked for", on_terminal(f"{command} --color always", trace, NO_COLOR="1", TERM="dumb") == coloured
+    for command in ("race --help", "replay --json", "explain --json", "draw", "check"):
         yield f"{command} isn't coloured", on_terminal(command, trace) == output(command, trace)
-    for file in sorted((TOP / "examples").rglob("*.trace")):
-        trace = file.read_text(encoding="utf-8")
-        for command in ("replay", "explain"):
-            plain, coloured = run(tested(), command, trace), run(tested(), f"{command} --color always", trace)
-            same = (coloured.status, coloured.err) == (plain.status, plain.err) and COLOUR.sub("", coloured.out) == plain.out
-            yield f"{file.stem}: {command} in colours says the same, and has no other word coloured", same and coloured.out == painted(plain.out)
 
 
 def is_progress_shown(words: str, read: str, last: str) -> bool:
@@ -216,32 +191,6 @@ def fits(options: str, script: str, columns: int) -> bool:
     return all(len(line) <= columns for trace in traces for line in output(f"explain {options}", trace).split("\n"))
 
 
-def waits_in(rows: list[str]) -> list[tuple[int, ...]]:
-    """The waits that the rows of an explanation tell: from which line to which, of which task, for whom, and for which index or file."""
-    found, begun = [], {}
-    for line, row in enumerate(rows, 2):
-        for task, what in re.findall(r"  task (\d+) waits (no more|for .*?)(?=  task |$)", row):
-            found += [(*begun.pop(task), line)] if task in begun else []
-            begun |= {task: (line, int(task), *map(int, re.findall(r"\d+", what.replace("slot", ""))))} if what != "no more" else {}
-    return sorted([*found, *((*it, len(rows) + 2) for it in begun.values())])
-
-
-def drawn_fault(picture: str, rows: list[str]) -> str | None:
-    """What is wrong with the waits, the failures and the blocked steps of a picture, by the rows of the same run in words, if anything is."""
-    step = min(int(it) for it in re.findall(r"<rect class='lane' x='72' y='\d+' width='(\d+)'", picture)) // len(rows)
-    hatched = re.findall(r"<title>line (\d+): task (\d+) waits for task (\d+)([^<]*)</title><rect class='held' x='\d+' y='\d+' width='(\d+)'", picture)
-    waits = [(int(line), int(task), int(holder), *map(int, re.findall(r"\d+", what)), int(line) + int(wide) // step) for line, task, holder, what, wide in hatched]
-    if sorted(waits) != [(line, task, holder, *what[1 if len(what) == 3 else 0:], end) for line, task, holder, *what, end in waits_in(rows)]:
-        return "it has other waits"
-    ended = [(line, it[1]) for line, row in enumerate(rows, 2) if (it := re.search(r": ended (\w+)", row)) and it[1] not in GOOD]
-    if [(int(line), answer) for line, answer in re.findall(r"<title>line (\d+): ended (\w+)</title>", picture)] != ended:
-        return "it has other failures"
-    blocked = [(line, it[1]) for line, row in enumerate(rows, 2) if (it := re.search(r"step \d+: blocked by (\d+)", row))]
-    if [(int(line), task) for line, task in re.findall(r"<title>line (\d+): blocked by task (\d+)</title>", picture)] != blocked:
-        return "it has other blocked steps"
-    return None
-
-
 def layout_fault(picture: str, wide: int, lanes: list[int], events: int) -> str | None:
     """What is wrong with how wide the events of a picture are and with the numbers of their lines, if anything is."""
     if wide > max(WIDE, 2 * events) + BESIDE:
@@ -268,41 +217,15 @@ def picture_fault(picture: str, events: int) -> str | None:
     if any(int(x) > wide for x in re.findall(r" (?:c?x='|d='M)(\d+)", picture)):
         return "a mark lies outside"
     lanes = [(y, h) for kind, _, y, _, h in rest if kind == "lane"]
-    if any(y + h > below for (y, h), (below, _) in pairwise(lanes)):
-        return "two lanes touch"
-    lane_of = dict(zip([int(it or 0) for it in NAME.findall(picture)], lanes))
-    tasks, places = TASK.findall(picture), STAY.findall(picture)
-    if len(tasks) != len(places) or len(tasks) != len(re.findall(r"<rect class='stay ", picture)):
-        return "a stay isn't told of"
-    stays = zip(tasks, places)
-    if any(lane_of.get(int(task)) != (int(y), int(h)) for task, (y, h) in stays):
-        return "a stay isn't in the lane of its task"
-    return None
+    return "two lanes touch" if any(y + h > below for (y, h), (below, _) in pairwise(lanes)) else None
 
 
 def helps() -> Iterator[tuple[str, bool]]:
-    """What is tried of the help of each command, beside what the program's own help, replay's and explore's tell."""
-    whole = output("--help", "")
-    told = dict(re.findall(r"^  ([a-z]+) +([A-Z].*)$", whole.split("Commands:\n")[1].split("\n\n")[0], re.M))
-    help_of = {command: output(f"{command} --help", "") for command in told if command != "help"}
-    below = {command: text.partition("Print help\n")[2] for command, text in help_of.items()}
-    lines_of = lambda command: set(re.findall(r"^ +--\w+.*$", help_of[command], re.M))
-    for command, text in help_of.items():
-        about, _, usage = text.split("\n")[:3]
-        yield f"{command} --help begins with what --help tells of it", about == told[command]
-        options = " CONDITION.." if command in ("find", "minimize") else ""
-        options += " [OPTIONS]" if command in ("replay", "explain", "draw", "explore", "schedule", "find", "step", "race", "work") else ""
-        wanted = " <NAME>" if command == "work" else " [FILE]"
-        yield f"{command} --help tells how it is called ({usage})", usage == f"Usage: hugepool {command}{options}{wanted}"
+    """That commands tell the same of traces and of scripts. (Rows have the rest of each help.)"""
+    below = lambda command: output(f"{command} --help", "").partition("Print help\n")[2]
     for command in ("explain", "draw", "check"):
-        yield f"{command} --help tells of traces as replay's does", len(below["replay"]) > 1000 and below[command] == below["replay"]
-    yield "schedule --help tells of scripts as explore's does", len(below["explore"]) > 500 and below["schedule"] == below["explore"]
-    # (a longer option makes more room before what is told of each)
-    told_of = lambda command: {re.sub(r"  +", "  ", line) for line in lines_of(command)}
-    runs = {line for line in told_of("explore") if re.match(r" +--(?:runs|audit|summary|color)", line)}
-    one = {line for line in told_of("schedule") if re.match(r" +--run ", line)}
-    shared = told_of("schedule") - one
-    yield "and of its options", len(runs) == 4 and len(one) == 1 and shared == told_of("explore") - runs != set()
+        yield f"{command} --help tells of traces as replay's does", len(below("replay")) > 1000 and below(command) == below("replay")
+    yield "schedule --help tells of scripts as explore's does", len(below("explore")) > 500 and below("schedule") == below("explore")
 
 
 def tries(program: Path) -> Iterator[tuple[str, bool]]:
@@ -314,9 +237,10 @@ def tries(program: Path) -> Iterator[tuple[str, bool]]:
     enough = len("refused idle\n") * 50_000 - 32_768
     yield "a replay doesn't wait for the end of its trace", told_so_far(some, enough) >= enough
     name, options = "truncate-against-store.script", ("--deny", "100", "--kill", "20")
-    for runs, shards in ((10, 3), (2, 5), *([(600, 1)] if is_proved() else [])):
+    for runs, shards in (("10", "3"), ("2", "5")):
         at_once = output(f"explore --seed 7 --runs {runs} {' '.join(options)}", example(name))
-        yield f"{runs} runs in {shards} shards are those of one exploration", in_shards(name, 7, runs, shards, *options) == at_once
+        is_same = in_shards(f"{TOP}/examples/{name}", "7", runs, shards, *options) == at_once
+        yield f"{runs} runs in {shards} shards are those of one exploration", is_same
     # (long enough for a line of progress on any machine)
     crowd, limit = example("64-backends-one-segment.script"), 20_000 if is_proved() else 200
     never = f"hugepool: no run meets all conditions (runs explored: {limit})\n"
@@ -346,11 +270,6 @@ def tries(program: Path) -> Iterator[tuple[str, bool]]:
         "of 64 tasks": "pool 1 1 1 64\n" + "".join(f"begin {task} exit\n" for task in range(1, 65)),
         "of calls in flight": example("calls-in-flight.trace"),
     }
-    for file in sorted((TOP / "examples").glob("*.explained")):
-        rows = file.read_text(encoding="utf-8").split("\n")[1:]
-        trace = example(f"{file.stem}.trace")
-        fault = drawn_fault(output("draw", trace), rows[: trace.count("\n") - 1])
-        yield f"a picture of {file.stem} shows what its explanation tells ({fault})", fault is None
     yield "64 tasks are explained in 120 columns", fits("--compact", example("64-backends-one-segment.script"), 120)
     yield "with Linux's functions, too", fits("--compact --linux", example("64-backends-one-segment.script"), 120)
     for name, trace in pictures.items():
