@@ -2,6 +2,7 @@
 from __future__ import annotations
 
 import os
+import re
 import shlex
 import subprocess
 import sys
@@ -12,6 +13,17 @@ from typing import Iterable, NamedTuple
 TOP = Path(__file__).resolve().parent.parent
 # (the gate shares the launcher's modules)
 sys.path.append(str(TOP / "launcher"))
+
+
+# words with which each command writes something, by what it reads
+WORDS = {
+    "trace": ("replay", "replay --json", "explain", "explain --compact --linux --tasks 1 --lines 2..3", "explain --json --lines 2..3", "draw",
+              "draw --html", "check", "format", "minimize --final resv=0 --anywhere", "step"),
+    "script": ("explore --runs 2", "explore --summary --runs 2", "schedule", "race --times 2", "race --trace", "find --final resv=1",
+               "find --every --final resv=1"),
+    "picture": ("audit",),
+    "": ("work readback", "work readback --trace", "--help"),
+}
 
 
 class Ran(NamedTuple):
@@ -73,6 +85,16 @@ def tested() -> Path:
     own = {**os.environ, "HUGEPOOL": "path"}
     ran = subprocess.run([TOP / "hugepool"], env=own, stdin=subprocess.DEVNULL, stdout=subprocess.PIPE, text=True, check=True)
     return Path(ran.stdout.strip())
+
+
+def commands() -> list[str]:
+    """The commands that the program's help names."""
+    return re.findall(r"^  ([a-z]+) ", run(tested(), "--help").out.partition("Commands:\n")[2].partition("\n\n")[0], re.M)
+
+
+def status_of(words: str) -> int:
+    """The status of these words behind a fault."""
+    return 2 if words.split()[0] in ("audit", "find", "minimize") else 1
 
 
 def is_proved() -> bool:
