@@ -6,8 +6,8 @@ usage: gate/page.py           says whether files are what it would write, and tr
 
 docs/INDEX.md has of each operation its phases as a graph, and of each phase its row, the function that does it, the lemma that says what
 it writes, and its mutants. The graph is read from the rows in crates/hp_machine/specs, and not from the tables of docs/MACHINE.md: the
-contracts of the code cite the rows. A row is read as far as its outcomes go (`Goes`, `Ends`, `Waits`), through the rows that operations
-share (Parts.antt).
+contracts of the code cite the rows. A row is read as far as its outcomes go (`Goes`, `Ends`, a lock or a slot that is looked at), through
+the rows that operations share (Parts.antt).
 
 The modules of crates/hp_page/src that hold a page's head and tail are made of the page's HTML, CSS and JavaScript in crates/hp_page/page/.
 """
@@ -48,7 +48,6 @@ step that is denied memory may lead elsewhere. The rows are the source of the gr
 """
 SPECS = CRATES / "hp_machine" / "specs"
 DEFINITION = re.compile(r"^(\w+Row)((?: \w+)+) =(.*?)(?=\n\n|\Z)", re.M | re.S)
-OUTCOMES = ("Goes", "Ends", "Waits")
 # what a row's step waits for, by the function of the pool that it looks at
 HOLDERS = {"s.locks": "the file lock", "s.slots": "the slot"}
 CARRIED = {"p.answer", "carried"}
@@ -118,32 +117,18 @@ def put_in(term: Term | str, given: dict[str, Term | str]) -> Term | str:
     return given.get(term, term) if isinstance(term, str) else [put_in(it, given) for it in term]
 
 
-def factors(term: Term) -> list[Term]:
-    """The parts of a term that stand between ×, without what it binds before."""
-    if "in" in term:
-        term = term[len(term) - term[::-1].index("in"):]
-    if term[:1] == ["λ"]:
-        term = term[2:]
-    cuts = [at for at, it in enumerate(term) if it == "×"]
-    return [term[a + 1:b] for a, b in zip([-1, *cuts], [*cuts, len(term)])]
-
-
-def outcomes(term: Term | str, tested: Term | str = "") -> Iterator[tuple[str, Term | str, Term | str]]:
-    """The outcomes in a row's right side: the word, what it is said of, and what was tested before."""
-    for part in factors(term) if isinstance(term, list) else ():
-        head, *rest = part
-        shared = definitions("Parts.antt").get(head) if isinstance(head, str) else None
-        if isinstance(head, list) and not rest:
-            yield from outcomes(head, tested)
-        elif head in ("MatchBool", "MatchOption"):
-            for branch in rest[1:]:
-                yield from outcomes(branch, rest[0])
-        elif head in OUTCOMES:
-            yield head, rest[0], tested
-        elif shared:
-            yield from outcomes(put_in(shared[1], dict(zip(shared[0], rest))), tested)
-        elif {*OUTCOMES} & {*words(part)}:
-            raise SystemExit(f"page: a row begins with {head}, which isn't known here")
+def outcomes(term: Term) -> Iterator[tuple[str, Term | str]]:
+    """The outcomes in a row's right side: the word, and what it is said of."""
+    shared = definitions("Parts.antt")
+    for at, it in enumerate(term):
+        if isinstance(it, list):
+            yield from outcomes(it)
+        elif it in ("Goes", "Ends"):
+            yield it, term[at + 1]
+        elif it in HOLDERS:
+            yield "Waits", HOLDERS[it]
+        elif it in shared:
+            yield from outcomes(put_in(shared[it][1], dict(zip(shared[it][0], term[at + 1:]))))
 
 
 @cache
@@ -166,20 +151,20 @@ def answers(term: Term | str) -> list[str]:
 
 
 def row_of(operation: str, phase: str) -> Row:
-    name, file = f"{operation.capitalize()}{phase}Row", f"{operation.capitalize()}Rows.antt"
-    body = definitions(file)[name][1]
+    body = definitions(f"{operation.capitalize()}Rows.antt")[f"{operation.capitalize()}{phase}Row"][1]
     row = Row({}, [], [], "grant" in words(body))
-    for word, term, tested in outcomes(body):
+    for word, term in outcomes(body):
         if word == "Goes":
             target = next(it for it in words(term) if it.startswith("at.")).removeprefix("at.")
             row.goes.setdefault(target, []).extend(answers(term))
         elif word == "Ends":
             row.ends.extend(answers(term))
         else:
-            row.waits.extend(HOLDERS[it] for it in words(tested) if it in HOLDERS)
+            row.waits.append(term)
     if not (row.goes or row.ends):
-        raise SystemExit(f"page: {name} leads nowhere")
+        raise SystemExit(f"page: {operation}'s phase {phase} leads nowhere")
     return row
+
 
 def told(names: list[str]) -> str:
     return ", ".join(dict.fromkeys(names))
@@ -204,14 +189,6 @@ def phases(operation: str) -> list[str]:
     text = (CRATES / "hp_machine" / "src" / f"{operation}.rt").read_text(encoding="utf-8")
     body = re.search(rf"pub enum {operation.capitalize()}Phase {{\n(.*?)\n}}", text, re.S)[1]
     return re.findall(r"^    (\w+)", body, re.M)
-
-
-def name_of_row(operation: str, phase: str, rows: str) -> str:
-    """The definition of a phase's row."""
-    name = f"{operation.capitalize()}{phase}Row"
-    if not re.search(rf"^abbrev pub {name} :", rows, re.M):
-        raise SystemExit(f"page: {operation}'s phase {phase} has no definition {name}")
-    return f"`{name}`"
 
 
 def function_of(operation: str, phase: str) -> str:
@@ -249,14 +226,13 @@ def index() -> str:
     edits = {crate: edits_of(crate) for crate in sorted(set(STEPS.values()))}
     out = [HEAD]
     for operation, crate in STEPS.items():
-        rows = (CRATES / "hp_machine" / "specs" / f"{operation.capitalize()}Rows.antt").read_text(encoding="utf-8")
         out.append(f"\n## {operation.capitalize()}\n\n{graph(operation)}\n")
         out.append("| Phase | Row | Function | Lemma | Mutants |\n|---|---|---|---|---|\n")
         for phase in phases(operation):
             name = function_of(operation, phase)
             own = edits[crate].get(Function((operation,), None, None, name), [])
             tried = ", ".join(f"`{it}`" for it in sorted(own))
-            cells = [phase.lower(), name_of_row(operation, phase, rows), f"`{operation}::{name}`", lemma_of(operation), tried]
+            cells = [phase.lower(), f"`{operation.capitalize()}{phase}Row`", f"`{operation}::{name}`", lemma_of(operation), tried]
             out.append(f"| {' | '.join(cells)} |\n")
     return "".join(out)
 
@@ -307,6 +283,7 @@ def tried() -> tuple[int, int]:
     counts = COUNTS.search(ran.stdout)
     print(COUNTS.sub("", ran.stdout).rstrip())
     return (int(counts[1]), int(counts[2])) if counts else (0, 1)
+
 
 def main(words: list[str]) -> int:
     texts = {INDEX: index()} | {SOURCES / f"{name}.rt": module(name, text) for name, text in parts().items()}
