@@ -27,9 +27,8 @@ import signal
 import subprocess
 import sys
 import tempfile
-import threading
 import time
-from concurrent.futures import ThreadPoolExecutor, as_completed
+from concurrent.futures import ThreadPoolExecutor, wait
 from typing import Callable, NamedTuple
 
 import programs
@@ -74,35 +73,29 @@ PACKAGES |= {"cargo": "cargo", "node": "nodejs", "pytest": "python3-pytest"}
 COUNTS = re.compile(r"^(?:[\w ]+: )?(\d+) passed, (\d+) failed$", re.M)
 # (without a network apt-get gives up soon)
 QUICKLY = ("-o", "Acquire::Retries=0", "-o", "Acquire::http::Timeout=10")
-# a script that takes longer hangs
-SECONDS, DAY = 3600, 86_400
 
 
-def has(command: str) -> bool:
-    """Whether a command is there; CC may name another C compiler."""
-    if command == "pytest":
-        pythons = filter(shutil.which, (sys.executable, "/usr/bin/python3"))
-        return any(subprocess.run([it, "-c", "import pytest"], stderr=subprocess.DEVNULL).returncode == 0 for it in pythons)
-    return shutil.which(shlex.split(os.environ.get("CC", "cc"))[0] if command == "cc" else command) is not None
+def lacking() -> list[str]:
+    """The commands that aren't there; CC may name another C compiler. (pytest is a module of Debian's python.)"""
+    found = {it: shutil.which(shlex.split(os.environ.get("CC", "cc"))[0] if it == "cc" else it) for it in PACKAGES}
+    found["pytest"] = found["pytest"] or not subprocess.run(["/usr/bin/python3", "-c", "import pytest"], stderr=subprocess.DEVNULL).returncode
+    return [it for it in PACKAGES if not found[it]]
 
 
 def provide(may_install: bool) -> list[str]:
     """Installs what is missing, where that is asked for or this is root, and returns the commands that still are."""
-    lacking = [it for it in PACKAGES if not has(it)]
-    packages = " ".join(PACKAGES[it] for it in lacking if PACKAGES[it])
+    packages = " ".join(PACKAGES[it] for it in lacking() if PACKAGES[it])
     if packages and shutil.which("apt-get") and (may_install or os.geteuid() == 0):
         print(f"check: installing {packages}", flush=True)
-        sudo = [] if os.geteuid() == 0 else ["sudo"]
+        apt = [*([] if os.geteuid() == 0 else ["sudo"]), "apt-get", "--quiet", *QUICKLY]
         for words in (["update"], ["install", "--yes", "--no-install-recommends", *packages.split()]):
-            how = {"stdin": subprocess.DEVNULL, "stdout": subprocess.DEVNULL, "stderr": subprocess.DEVNULL}
-            subprocess.run([*sudo, "apt-get", "--quiet", *QUICKLY, *words], **how)
-        lacking = [it for it in lacking if not has(it)]
-        packages = " ".join(PACKAGES[it] for it in lacking if PACKAGES[it])
-    if packages:
-        print(f"check: missing: {', '.join(it for it in lacking if PACKAGES[it])}: sudo apt-get install {packages}", flush=True)
-    if "rt" in lacking:
+            subprocess.run([*apt, *words], stdin=subprocess.DEVNULL, stdout=subprocess.DEVNULL, stderr=subprocess.DEVNULL)
+    missing = lacking()
+    if packages := " ".join(PACKAGES[it] for it in missing if PACKAGES[it]):
+        print(f"check: missing: {', '.join(it for it in missing if PACKAGES[it])}: sudo apt-get install {packages}", flush=True)
+    if "rt" in missing:
         print('check: missing: rt, the command of the Rattle toolchain (README, "The toolchain")', flush=True)
-    return lacking
+    return missing
 
 
 class Gate:
@@ -124,12 +117,9 @@ class Gate:
         began, said = time.monotonic(), ""
         how = {"stdin": subprocess.DEVNULL, "stdout": subprocess.PIPE, "stderr": subprocess.STDOUT, "text": True, "errors": "replace"}
         with subprocess.Popen(words, cwd=TOP, **how) as ran:
-            limit = threading.Timer(DAY if is_shown else SECONDS, ran.kill)
-            limit.start()
             for text in ran.stdout:
                 said += text
                 print(text if is_shown else "", end="", flush=is_shown)
-            limit.cancel()
         counts = [(int(passed), int(failed)) for passed, failed in COUNTS.findall(said)]
         passed, failed = (sum(it) for it in zip(*counts)) if counts else (int(not ran.returncode), 0)
         failed = failed or int(ran.returncode != 0)
@@ -141,7 +131,7 @@ class Gate:
         return not failed
 
     def scripts(self, several: list[Script]) -> None:
-        """Runs scripts side by side, one a processor, and says which run."""
+        """Runs scripts side by side, one a processor, and says which are left."""
         self.left_out += [f"left out: {it.words}: it needs {lacks}" for it in several if (lacks := self.without(it))]
         several = [it for it in several if not self.without(it)]
         line, left = Line("check", sys.stdout), {it.words for it in several}
@@ -149,10 +139,9 @@ class Gate:
             begun = {pool.submit(self.run, command(it.words), it.words): it.words for it in several}
             while left:
                 line.show(lambda: f"{len(begun) - len(left)} of {len(begun)} scripts are done; left are {', '.join(sorted(left))}")
-                left -= {begun[it] for it in begun if it.done()}
-                time.sleep(0.2)
+                left -= {begun[it] for it in wait(begun, timeout=0.2).done}
             line.clear()
-        for it in as_completed(begun):
+        for it in begun:
             it.result()
 
     def tell(self) -> int:
@@ -192,10 +181,9 @@ def tests(gate: Gate, groups: list[str]) -> bool:
 
 
 def mutants(gate: Gate, words: list[str]) -> bool:
-    """Runs them with their output, which takes long; and faulty ones, which must be reported."""
+    """Runs them with their output, which takes long."""
     named = f"gate/mutants.py {' '.join(words)}".strip()
-    has_passed = gate.run(command(named), named, True)
-    return has_passed and (bool(words) or gate.run(command("gate/test_mutants.py"), "gate/test_mutants.py"))
+    return gate.run(command(named), named, True)
 
 
 def library(gate: Gate) -> bool:

@@ -35,10 +35,10 @@ class Ran(NamedTuple):
 
 
 def run(program: Path, words: str, read: str | bytes = b"", **how) -> Ran:
-    """Runs a program with these words and this input."""
+    """Runs a program with these words and this input. One that takes an hour hangs."""
     given = read.encode() if isinstance(read, str) else read
     # (the usage that it prints has the name that users call it by)
-    ran = subprocess.run(["hugepool", *shlex.split(words)], executable=program, input=given, capture_output=True, check=False, **how)
+    ran = subprocess.run(["hugepool", *shlex.split(words)], executable=program, input=given, capture_output=True, **{"timeout": 3600, **how})
     return Ran(ran.returncode, ran.stdout.decode(errors="replace"), ran.stderr.decode(errors="replace"))
 
 
