@@ -78,7 +78,8 @@ QUICKLY = ("-o", "Acquire::Retries=0", "-o", "Acquire::http::Timeout=10")
 def lacking() -> list[str]:
     """The commands that aren't there; CC may name another C compiler. (pytest is a module of Debian's python.)"""
     found = {it: shutil.which(shlex.split(os.environ.get("CC", "cc"))[0] if it == "cc" else it) for it in PACKAGES}
-    found["pytest"] = found["pytest"] or not subprocess.run(["/usr/bin/python3", "-c", "import pytest"], stderr=subprocess.DEVNULL).returncode
+    imported = subprocess.run(["/usr/bin/python3", "-c", "import pytest"], stderr=subprocess.DEVNULL)
+    found["pytest"] = found["pytest"] or imported.returncode == 0
     return [it for it in PACKAGES if not found[it]]
 
 

@@ -187,7 +187,8 @@ def note_tried(names: Iterable[str], began: datetime, is_all: bool) -> None:
 
 
 def lines_of(tried: Tried, is_each_told: bool) -> list[str]:
-    return [f"  {tried.name}/{it.name}: {it.why}" for it in sorted(tried.results, key=lambda it: it.name) if is_each_told or not it.is_refused]
+    told = (it for it in sorted(tried.results, key=lambda it: it.name) if is_each_told or not it.is_refused)
+    return [f"  {tried.name}/{it.name}: {it.why}" for it in told]
 
 
 def try_all(picked: set[str], is_all: bool, is_each_told: bool) -> int:

@@ -17,10 +17,14 @@ sys.path.append(str(TOP / "launcher"))
 
 # words with which each command writes something, by what it reads
 WORDS = {
-    "trace": ("replay", "replay --json", "explain", "explain --compact --linux --tasks 1 --lines 2..3", "explain --json --lines 2..3", "draw",
-              "draw --html", "check", "format", "minimize --final resv=0 --anywhere", "step"),
-    "script": ("explore --runs 2", "explore --summary --runs 2", "schedule", "race --times 2", "race --trace", "find --final resv=1",
-               "find --every --final resv=1"),
+    "trace": (
+        *("replay", "replay --json", "explain", "explain --compact --linux --tasks 1 --lines 2..3", "explain --json --lines 2..3", "draw"),
+        *("draw --html", "check", "format", "minimize --final resv=0 --anywhere", "step"),
+    ),
+    "script": (
+        *("explore --runs 2", "explore --summary --runs 2", "schedule", "race --times 2", "race --trace"),
+        *("find --final resv=1", "find --every --final resv=1"),
+    ),
     "picture": ("audit",),
     "": ("work readback", "work readback --trace", "--help"),
 }
@@ -38,7 +42,8 @@ def run(program: Path, words: str, read: str | bytes = b"", **how) -> Ran:
     """Runs a program with these words and this input. One that takes an hour hangs."""
     given = read.encode() if isinstance(read, str) else read
     # (the usage that it prints has the name that users call it by)
-    ran = subprocess.run(["hugepool", *shlex.split(words)], executable=program, input=given, capture_output=True, **{"timeout": 3600, **how})
+    how = {"capture_output": True, "timeout": 3600, **how}
+    ran = subprocess.run(["hugepool", *shlex.split(words)], executable=program, input=given, **how)
     return Ran(ran.returncode, ran.stdout.decode(errors="replace"), ran.stderr.decode(errors="replace"))
 
 

@@ -2,8 +2,8 @@
 """Compares docs/PROVED.md with the contracts: each call and clause that a row names is there, and each clause of a public call is named.
 
 A row's second column names calls: `hp_frames::Bank::{take, free}`, or `Bank::take` below the heading of its crate; `Bank`'s calls, the
-invariant of a `Bank`, its `Display`, the same (as in the row before), and `..` for all public ones. Behind "in" stands the file. Its third names
-clauses: `after`, `ok`; its contract; clauses without a name; its type. Each name is a clause of one of the row's calls, or a definition
+invariant of a `Bank`, its `Display`, the same (as in the row before), and `..` for all public ones. Behind "in" stands the file. Its
+third names clauses: `after`, `ok`; its contract; clauses without a name; its type. Each name is a clause of one of the row's calls, or a definition
 that one of its clauses cites, and each call has one of them. In parentheses stand definitions, which have to be in specs. What the tables
 leave out stands below "What isn't listed". Compared are also the theorems that no call of the core is named after, and the clauses that
 docs/POOL.md names.
@@ -163,8 +163,10 @@ def calls_of(row: Row) -> Iterator[tuple[str, list[Function]]]:
             yield part, found(f"{made[1]}::invariant", row.crate)
         else:
             names, _, file = part.partition(" in `")
-            paths = [head + it.strip() for span in SPAN.findall(names) for head, _, more in [span.partition("{")] for it in more.rstrip("}").split(",")]
-            yield from ((it, [one for one in found(it, row.crate) if not file or one.file == file.rstrip("`")]) for it in paths if not it.endswith(".."))
+            spans = (span.partition("{") for span in SPAN.findall(names))
+            paths = [head + it.strip() for head, _, several in spans for it in several.rstrip("}").split(",")]
+            for it in (it for it in paths if not it.endswith("..")):
+                yield it, [one for one in found(it, row.crate) if not file or one.file == file.rstrip("`")]
             yield from ((str(it), [it]) for it in contracts(row.crate) if paths[-1].endswith("..") and is_on_surface(it))
 
 

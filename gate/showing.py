@@ -101,7 +101,8 @@ def in_shards(*words: str) -> str:
         stand_in.write_text(PARALLEL, encoding="utf-8")
         stand_in.chmod(0o755)
         own = {**os.environ, "PATH": f"{name}:{os.environ['PATH']}", "HUGEPOOL": "now"}
-        return subprocess.run([TOP / "bench" / "explore-many.sh", *words], stdin=subprocess.DEVNULL, capture_output=True, text=True, env=own).stdout
+        how = {"stdin": subprocess.DEVNULL, "stdout": subprocess.PIPE, "text": True, "env": own}
+        return subprocess.run([TOP / "bench" / "explore-many.sh", *words], **how).stdout
 
 
 def do_races_differ(script: str) -> bool:

@@ -173,7 +173,8 @@ def proofs(room: Room) -> Iterator[tuple[str, bool]]:
     where = lambda how="path": room.call((), HUGEPOOL=how).out.strip().removeprefix(str(room.top))
     yield "where no program is there, none is compiled", room.call((), HUGEPOOL="there") == Ran(1, "", "") and room.calls("try") == 0
     yield "for tests that need no proof a path is printed", where() == where("there") == "/crates/hugepool/out/unproved"
-    yield "HUGEPOOL=proved proves, and then each call runs that", room.proved(1, HUGEPOOL="proved") and room.call() == Ran(0, "a b by hugepool run 1\n", "")
+    is_proved = room.proved(1, HUGEPOOL="proved")
+    yield "HUGEPOOL=proved proves, and then each call runs that", is_proved and room.call() == Ran(0, "a b by hugepool run 1\n", "")
     yield "so do tests", where() == where("there") == "/crates/hugepool/out/hugepool" and room.proved(1, HUGEPOOL="now")
     yield "what is proved isn't built again", room.call(("build",))[:2] == (0, "") and room.calls("run") == 1
     (room.top / "other").mkdir()
@@ -270,7 +271,7 @@ def side_by_side(room: Room) -> Iterator[tuple[str, bool]]:
     room.remove("free")
     room.write("broken", "right")
     status, err = built()
-    yield "one that isn't proved is named, with what the prover said", status == 126 and "right is not proved" in err and "this is why" in err
+    yield "one that isn't proved is named, with why", status == 126 and "right is not proved" in err and "this is why" in err
     yield "then nothing is current, and nothing runs", not is_current() and room.running() == 0
     room.remove("broken")
     for number in (signal.SIGINT, signal.SIGTERM):
@@ -289,7 +290,8 @@ def dues(top: Path) -> Iterator[tuple[str, bool]]:
     """Which mutants are due."""
     every, tried, later = {"high", "low"}, "2026-01-01T12:00:00+00:00", "2026-01-01T13:00:00+00:00"
     own = ["git", "-C", top, "-c", "user.name=a", "-c", "user.email=a@b"]
-    git = lambda *words, at="": subprocess.run([*own, *words], capture_output=True, check=True, env={**os.environ, "GIT_COMMITTER_DATE": at})
+    dated = lambda at: {**os.environ, "GIT_COMMITTER_DATE": at}
+    git = lambda *words, at="": subprocess.run([*own, *words], capture_output=True, check=True, env=dated(at))
 
     def commit(path: str, at: str) -> None:
         (top / path).parent.mkdir(parents=True, exist_ok=True)
@@ -317,7 +319,8 @@ def tries_in(part: Callable, crates: dict[str, list[str]] | None) -> list[tuple[
 
 
 def tries() -> Iterator[tuple[str, bool]]:
-    parts = [(unproved, CRATES), (proofs, CRATES), (staleness, CRATES), (stands_on, crates_of()), (side_by_side, SIDE_BY_SIDE), (dues, None)]
+    parts = [*((part, CRATES) for part in (unproved, proofs, staleness)), (stands_on, crates_of()), (side_by_side, SIDE_BY_SIDE)]
+    parts.append((dues, None))
     with ThreadPoolExecutor(len(parts)) as pool:
         for found in pool.map(lambda it: tries_in(*it), parts):
             yield from found

@@ -63,7 +63,7 @@ SIGNALS = Signals()
 
 
 class Line:
-    """A line that shows how far a long task is: on a terminal one that changes in place each second, elsewhere a new one each 15 seconds."""
+    """A line that shows how far a long task is: on a terminal it changes in place each second, elsewhere there is a new one each 15 s."""
 
     def __init__(self, name: str = "hugepool", out: TextIO | None = None) -> None:
         self.name, self.out = name, out or sys.stderr

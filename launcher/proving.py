@@ -153,7 +153,7 @@ class Proving:
         self.work, self.known, self.line = EXPECTED, EXPECTED, Line()
 
     def begin_ready(self) -> None:
-        """Begins what there are processors and memory for, the longest chain first. Where nothing runs, one begins whatever memory there is."""
+        """Begins what there are processors and memory for, the longest chain first. Where nothing runs, one does in any case."""
         ready = [it for it in self.left if it.below <= self.built]
         jobs = jobs_of(ready, [run.library for run in self.runs.values()], self.left, self.processors)
         for it in ready:
