@@ -4,14 +4,15 @@
 Each trace of examples/ and of the folders in it is replayed: NAME.out has the output, NAME.err and NAME.status the complaint and the
 status, where they aren't nothing and 0. NAME.explained is what is written where the trace is explained, and docs/pictures/NAME.svg what
 is drawn of it.
-The lines of JSON of each trace say what its rows say (objects.py).
+The lines of JSON of each trace are as Python's writer writes them, and a page holds these lines.
 All these, and those of examples/commands/, are rows (rows.py).
 Each script is explored by the words behind each `#` of the file NAME.lines beside it, and its lines are compared with those
-below the words; and the schedule of each first run is replayed, and ends with the counts of that run's line. Each script is
-raced some times in threads, too, whole, in parts, and where steps are denied and tasks killed: every race has to be closed.
+below the words. It is raced some times in threads, too, whole, in parts, and where steps are denied and tasks killed: every race has to be
+closed.
 """
 from __future__ import annotations
 
+import json
 import os
 import re
 import sys
@@ -20,7 +21,7 @@ from concurrent.futures import ThreadPoolExecutor
 from pathlib import Path
 from typing import Iterator, NamedTuple
 
-import objects
+import page
 import rows
 from programs import TOP, Ran, is_proved, report, run, tested
 from rows import Row, first_difference
@@ -35,8 +36,6 @@ CUTS = ("", *(f" --cut {calls}" for calls in range(1, 7)))
 CHANCES = " --deny 50 --kill 200"
 # the bytes of an input that the program without proof reads too slowly
 LARGE = 100_000
-
-
 RACED = re.compile(r"run \d+ closed entries \d+ free \d+ resv \d+")
 
 
@@ -99,10 +98,6 @@ def script_tries(program: Path, name: str) -> Iterator[tuple[str, bool]]:
         lines = f"{lines.rstrip()}\n"
         printed = output(program, words, script)
         yield f"{name}: {words}: {first_difference(printed.split(chr(10)), lines.split(chr(10)))}", printed == lines
-        options = re.sub(r" --runs \S+", "", words.removeprefix("explore"))
-        replayed = output(program, "replay", output(program, f"schedule{options}", script))
-        counts = lines.split("\n", 1)[0].partition(" free ")[2]
-        yield f"{name}: {words}: the replay of its first run ends with {counts}", f"\nfree {counts} calls 0" in replayed
     for options in (*CUTS, CHANCES, f"{CHANCES} --cut 2"):
         ran = run(program, f"race --times {RACES}{options}", script)
         if script.startswith("script ") and " --cut " in options:
@@ -156,8 +151,16 @@ def race_fault(ran: Ran) -> str | None:
     return None
 
 
-def of_trace(program: Path, name: str) -> Iterator[tuple[str, bool]]:
-    return objects.tries(program, name, text(name, ".trace")) if not text(name, ".status").strip("0\n") else iter(())
+def json_tries(program: Path, name: str) -> Iterator[tuple[str, bool]]:
+    """Whether the lines of JSON of a trace are as Python writes them, who else writes them, and what a page is. (What they say is proved.)"""
+    trace, status = text(name, ".trace"), int(text(name, ".status", "0"))
+    if status:
+        return
+    lines = run(program, "explain --json", trace).out
+    again = "".join(json.dumps(json.loads(line), separators=(",", ":")) + "\n" for line in lines.splitlines())
+    yield f"{name}: the lines of explain --json are JSON", again == lines != ""
+    yield f"{name}: replay --json writes the same lines", run(program, "replay --json", trace).out == lines
+    yield f"{name}: draw --html writes them between head and tail", run(program, "draw --html", trace).out == lines.join(page.page())
 
 
 def tries(program: Path, pool: ThreadPoolExecutor) -> Iterator[tuple[str, bool]]:
@@ -170,7 +173,7 @@ def tries(program: Path, pool: ThreadPoolExecutor) -> Iterator[tuple[str, bool]]
     several = [it for it in several if it not in large]
     begun = [pool.submit(lambda name=name: [*script_tries(program, name)]) for name in sorted(names(".script"))]
     begun += [pool.submit(lambda it=it: [*rows.tries(program, *it)]) for it in several]
-    begun += [pool.submit(lambda name=name: [*of_trace(program, name)]) for name in sorted(names(".trace"))]
+    begun += [pool.submit(lambda name=name: [*json_tries(program, name)]) for name in sorted(names(".trace"))]
     for it in begun:
         yield from it.result()
 
