@@ -7,7 +7,7 @@ words of ./hugepool explain, too: output, status and, behind the line that says 
 The whole one has a running pool whose journal goes wrong at three words that a store may write: it loses the store's begin, swaps it
 with the entry before, or has it twice. No proof allows such a pool, so nothing else shows that its end finds the disagreement, and where.
 It has an output whose flush fails, where a variable says so, since standard output has nothing to flush: each command has to say that
-writing failed. And races of five tasks begin without a wait for each other, those of six in one thread: growths.py has to notice both.
+writing failed.
 """
 from __future__ import annotations
 
@@ -19,8 +19,7 @@ from concurrent.futures import ThreadPoolExecutor
 from pathlib import Path
 from typing import Iterator
 
-from growths import Program, is_met, library
-from programs import TOP, Ran, of_program, report, run, sources_of, tested
+from programs import TOP, WORDS, Ran, of_program, report, run, sources_of, status_of, tested
 
 NOTICE = "hugepool: not proved yet: the same sources, compiled without proof; ./hugepool build proves them\n"
 LEFT_OUT = shutil.ignore_patterns("out", ".git", "target", "__pycache__")
@@ -35,7 +34,7 @@ GOES_WRONG = """        let word = match *lent { Event::Begin(_, hp_base::Op::St
 """
 # A load that finds no mapping makes two entries, so the store's begin is the fifth, at position 4. Lost, the next one stands there, which
 # isn't the next of its task; swapped, it stands at position 3; twice, it stands at 5 again.
-WORDS = {4001: "disagree 4 entries 4", 4002: "disagree 3 entries 3", 4003: "disagree 5 entries 5", 4004: "closed entries 8"}
+DISAGREE = {4001: "disagree 4 entries 4", 4002: "disagree 3 entries 3", 4003: "disagree 5 entries 5", 4004: "closed entries 8"}
 
 # an output whose flush fails
 OUTPUT = """/// Standard output, whose flush may fail.
@@ -53,7 +52,7 @@ impl<W: std::io::Write> std::io::Write for Flushed<W> {
 }
 
 """
-FLUSHED, CAME, RACERS = "rt.stdout(), palette", "        self.came.fetch_add(", "        racers,\n        count,\n"
+FLUSHED = "rt.stdout(), palette"
 # what is changed in the copy: in the one source of the program that has the first text, each of these, which stands there once
 CHANGES = [
     (KEEPS, [(KEEPS, GOES_WRONG)]),
@@ -65,23 +64,7 @@ CHANGES = [
             (FLUSHED, 'Flushed(rt.stdout(), rt.var("FLUSH_FAILS", &mut [0; 8]).is_ok()), palette'),
         ],
     ),
-    (CAME, [(CAME, f"        if self.racers == 5 {{ return; }}\n{CAME}")]),
-    (RACERS, [(RACERS, "        racers,\n        if count == 6 { 1 } else { count },\n")]),
 ]
-# words with which each command writes something; of each other command that the help names, the command alone
-WITH = {
-    "explore": ("explore --runs 2", "explore --summary"),
-    "explain": ("explain", "explain --compact --linux --tasks 1 --lines 2..3", "explain --json --lines 2..3"),
-    "replay": ("replay", "replay --json"),
-    "draw": ("draw", "draw --html"),
-    "minimize": ("minimize --final resv=0 --anywhere",),
-    "race": ("race --times 2", "race --trace"),
-    "work": ("work readback", "work readback --trace"),
-    "find": ("find --final resv=1", "find --every --final resv=1"),
-    "help": ("--help",),
-}
-# what a command reads that reads no script, and its status where writing fails, if it isn't 1
-READS, STATUS = {"audit": b"picture 0 0 0 0\nend\n"}, {"audit": 2, "find": 2, "minimize": 2}
 
 
 def told_of(launcher: Path, words: str, read: bytes, **more: str) -> Ran:
@@ -117,26 +100,16 @@ def compiled(copy: Path) -> list[str]:
 
 def flushes(copy: Path) -> Iterator[tuple[str, bool]]:
     """Whether each command reports an output that fails at its last flush, and only then."""
-    script, helped = b"pool 4 1 4 1\nbegin 1 map 0 0 1\n", told_of(copy / "hugepool", "--help", b"").out
-    commands = [line.split()[0] for line in helped.partition("Commands:\n")[2].partition("\n\n")[0].splitlines()]
-    for words in (it for command in commands for it in WITH.get(command, (command,))):
-        name = words.split()[0]
-        good = told_of(copy / "hugepool", words, READS.get(name, script))
-        failed = told_of(copy / "hugepool", words, READS.get(name, script), FLUSH_FAILS="1")
-        wanted = (STATUS.get(name, 1), len(good.out), f"{NOTICE}hugepool: writing failed\nhugepool: no storage space\n")
+    for kind, words in ((kind, words) for kind, several in WORDS.items() for words in several):
+        read = b"picture 0 0 0 0\nend\n" if kind == "picture" else b"pool 4 1 4 1\nbegin 1 map 0 0 1\n"
+        good, failed = told_of(copy / "hugepool", words, read), told_of(copy / "hugepool", words, read, FLUSH_FAILS="1")
+        wanted = (status_of(words), len(good.out), f"{NOTICE}hugepool: writing failed\nhugepool: no storage space\n")
         yield f"{words} flushes its output", good.status == 0 and (failed.status, len(failed.out), failed.err) == wanted
-
-
-def races(copy: Path, room: Path) -> Iterator[tuple[str, bool]]:
-    """Whether races are noticed that don't begin together, or in one thread."""
-    program = Program(copy / "crates/hugepool/out/unproved", library(room))
-    for tasks, is_right in ((4, True), (5, False), (6, False)):
-        yield f"whether {tasks} tasks meet", is_met(program, tasks, 16, seconds=120 if is_right else 10) == is_right
 
 
 def disagreements(copy: Path) -> Iterator[tuple[str, bool]]:
     """Whether the end of a pool finds where its journal went wrong, also where a cut found it before."""
-    for word, told in WORDS.items():
+    for word, told in DISAGREE.items():
         loads = "begin 1 load 0\n"
         script = f"pool 1 1 1 1\n{loads}{loads}begin 1 store 0 {word}\n{loads}".encode()
         wanted = f"run 0 {told} free 1 resv 0\n"
@@ -146,7 +119,7 @@ def disagreements(copy: Path) -> Iterator[tuple[str, bool]]:
         yield f"a store of {word}, where the race is cut: {cut.out.strip()}", (cut.out, cut.status) == (ran.out, ran.status)
 
 
-def tries(copy: Path, room: Path, pool: ThreadPoolExecutor) -> Iterator[tuple[str, bool]]:
+def tries(copy: Path, pool: ThreadPoolExecutor) -> Iterator[tuple[str, bool]]:
     """What is tried, and whether it went as it should."""
     yield from change(copy)
     first = told_of(copy / "hugepool", "replay", b"pool 1 1 1 1\n")
@@ -158,13 +131,12 @@ def tries(copy: Path, room: Path, pool: ThreadPoolExecutor) -> Iterator[tuple[st
         yield from same(copy, command, pool)
     yield from disagreements(copy)
     yield from flushes(copy)
-    yield from races(copy, room)
 
 
 def main() -> int:
     with tempfile.TemporaryDirectory(prefix="unproved-") as room, ThreadPoolExecutor(2) as pool:
         copy = Path(shutil.copytree(TOP, Path(room) / "copy", ignore=LEFT_OUT))
-        return report("unproved", tries(copy, Path(room), pool))
+        return report("unproved", tries(copy, pool))
 
 
 if __name__ == "__main__":
