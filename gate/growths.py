@@ -18,17 +18,16 @@ import shlex
 import subprocess
 import sys
 import tempfile
+from bisect import bisect_left
 from concurrent.futures import ThreadPoolExecutor
 from pathlib import Path
-from typing import Callable, Iterator, NamedTuple
+from typing import Callable, Iterable, Iterator, NamedTuple
 
-from programs import TOP, Ran, is_current, is_proved, program_of, report, run, tested
+from programs import TOP, WORDS, Ran, commands, is_current, is_proved, program_of, report, run, status_of, tested
 
 # the status of a run that does not end
 HANGS = -1
 SECONDS = 300
-# so many seconds threads wait for each other that have to meet
-PATIENCE = 120
 # no line of words has so many growths, reads or writes
 MOST = 20_000
 # the number by which the library tells of each thread, and refuses nothing
@@ -41,34 +40,9 @@ FAILED = {
 }
 
 
-def two_stores(gate: str, word: int, end: str) -> str:
-    """What is told of two stores in threads, where this is told of the gate between them, of a load behind them, and of the end."""
-    told = ["map of 1: mapped 0", "map of 2: mapped 0", "store of 1: done", "store of 2: done"]
-    return "".join(f"{line}\n" for line in [*told, f"gate: {gate}", f"load of 2: word {word}", f"closed: {end}"])
-
-
-# what hp_memory_tests tells where nothing is refused, by what it reads; of a trace, what its replay writes
-STORIES = {
-    "c": """map of 1: mapped 0
-map of 2: mapped 0
-cut: first 0 entries 16
-store of 1: done
-cut: first 16 entries 10
-load of 2: word 41
-closed: entries 32 free 3 resv 1
-""",
-    "r": """resized 2
-resized 9
-closed: entries 2 free 9 resv 0
-""",
-    "g": two_stores("opened as store of 2 had ended", 41, "entries 42 free 2 resv 0"),
-    "w": two_stores("opened as store of 2 waited", 42, "entries 34 free 3 resv 1"),
-}
-# what is told where no second thread can be made: the calls are made one after the other then, the second thread's first
-APART = {
-    "g": two_stores("no second thread", 41, "entries 42 free 2 resv 0"),
-    "w": two_stores("no second thread", 41, "entries 34 free 3 resv 1"),
-}
+# what hp_memory_tests tells where nothing is refused, by what it reads (NAME.out), and where no second thread can be made (NAME.apart); of a
+# trace, what its replay writes
+STORIES = TOP / "crates" / "hp_memory_tests" / "stories"
 # of two stores over a driver: how the first ended, the numbers of the pool then, and how the second ended; where both are made, ..
 BOTH_DONE = ("done", "tally 1 0 1 1", "done")
 # .. and where memory is refused to one of them. (Not each refused growth shows: a list that is collected is begun anew with less room.)
@@ -136,12 +110,11 @@ def library(folder: Path) -> Path:
 
 
 class Case(NamedTuple):
-    """Words, what is read, and whether an output is right, or the front of one that is."""
+    """Words, what is read, and what the outputs of two runs have in common: all, or what races have."""
 
     words: str
     read: str
-    is_right: Callable[[str, str], bool]
-    is_front: Callable[[str, str], bool]
+    alike: str = "all"
     # the calls that fail, each in turn
     fails: tuple[str, ...] = ("GROWTH",)
     # of a story, what it tells, what where it has no second thread, and what refusals bring about in it
@@ -157,35 +130,18 @@ class Case(NamedTuple):
     # the status behind a fault
     status: int = 1
 
-
-def is_same(out: str, right: str) -> bool:
-    return out == right
-
-
-def is_front(out: str, right: str) -> bool:
-    return right.startswith(out)
-
-
-def is_race_front(out: str, right: str) -> bool:
-    """Whether these are lines of closed races, in order; no two races need be alike."""
-    lines = out.splitlines()
-    closed = all(RACED.fullmatch(line) and line.startswith(f"run {k} ") for k, line in enumerate(lines))
-    return closed and out.count("\n") == len(lines) <= right.count("\n")
-
-
-def is_race(out: str, right: str) -> bool:
-    return is_race_front(out, right) and out.count("\n") == right.count("\n")
-
-
-def begins_alike(out: str, right: str) -> bool:
-    """Whether both begin with the same line, as far as it is there: the traces of two races are alike in that alone."""
-    header = right.split("\n")[0]
-    return header.startswith(out[: len(header)])
-
-
-def plain_words(words: str, read: str) -> Case:
-    """Words whose output is the same each time."""
-    return Case(words, read, is_same, is_front)
+    def agrees(self, out: str, right: str, is_whole: bool) -> bool:
+        """Whether an output is right, or the front of one that is. Of races each line is that of a closed one, in order; the traces of two
+        races are alike in their first line alone."""
+        if self.alike == "header":
+            header = right.split("\n")[0]
+            return header.startswith(out[: len(header)])
+        if self.alike == "races":
+            lines = out.splitlines()
+            closed = all(RACED.fullmatch(line) and line.startswith(f"run {k} ") for k, line in enumerate(lines))
+            missing = right.count("\n") - len(lines)
+            return closed and out.count("\n") == len(lines) and (missing == 0 or missing > 0 and not is_whole)
+        return out == right if is_whole else right.startswith(out)
 
 
 def example(name: str) -> str:
@@ -208,97 +164,76 @@ def workloads() -> list[str]:
 LOOSE = "# by hand\n\npool 4 1 4 1\n begin 1 map 0 0 1\nstep 1 *3\nstep 1 until ended\nbegin 1 store 0 7\nstep 1 until taken\n"
 
 
+# a trace that is a script
+SMALL = "pool 4 1 4 1\nbegin 1 map 0 0 1\n"
 # a state with which much is wrong
 PICTURE = "picture 1 0 0 0\n" + "".join(f"hand {it // 2}\n" for it in range(600)) + "end\n"
 
 
-def cases() -> list[Case]:
+def cases() -> Iterator[Case]:
     """What is run."""
-    plain = plain_words
-    run = lambda trace: plain("replay", trace)._replace(lines=trace.count("\n") - 1)
-    # (where there is one processor runs are explored by no second thread)
-    explored = lambda words, read: plain(words, read)._replace(starts=(os.cpu_count() or 1) > 1)
-    raced = lambda words, read: Case(words, read, is_race, is_race_front, starts=True)
     wide, script = example("calls-in-flight.trace"), example("truncate-against-store.script")
-    traces = [wide, example("alloc-punch-and-store-under-a-quota.trace"), example("resize-keeps-reserved-frames.trace")]
-    return [
-        *(run(trace) for trace in traces),
-        *(plain(f"work {name}", "") for name in workloads()),
-        plain("work shared --trace", ""),
-        *(plain(f"work {name} --on pool", "")._replace(starts=True) for name in ("shared", "alloc-instantiate-race")),
-        *(plain(words, wide) for words in ("explain", "draw", "check", "--help", "replay --help", "nothing", "replay --all")),
-        *(plain(words, wide) for words in ("replay --json", "explain --json --tasks 7,12 --lines 2..9", "explain --json --linux", "draw --html")),
-        *(plain(f"explain {words}", wide) for words in ("--compact --linux --tasks 7,12 --lines 2..9", "--lines 4..3", "--tasks 65")),
-        plain("draw", example("quota-goes-to-the-map.trace")),
-        plain("replay", example("a-bad-line.trace")),
-        explored("explore --seed 7 --runs 3 --deny 100 --kill 10", script),
-        *(explored(f"explore --runs 2{audit}", crowd(6)) for audit in ("", " --audit")),
-        # (the lines of the first part are written while the second is explored)
-        explored("explore --runs 513", "pool 1 1 1 1\n")._replace(lines=513),
-        plain("schedule --seed 7", script),
-        explored("find --seed 7 --answer 1:2=beyond", script)._replace(status=2),
-        plain("find --every --final resv=1", "pool 1 1 1 1\nbegin 1 map 0 0 1\n")._replace(status=2),
-        plain("minimize --answer 1:2=beyond", example("truncate-overtakes-a-store.trace"))._replace(status=2),
-        raced("race --times 2", script)._replace(lines=2),
-        raced("race --times 1 --cut 2", script),
-        raced("race --times 1 --deny 100 --kill 200", script),
-        raced("race --times 1", example("truncate-after-store.script"))._replace(waits=True),
-        explored("explore --summary --runs 3 --deny 100 --kill 10", script),
-        *(plain(words, LOOSE) for words in ("format", "step")),
-        plain("audit", PICTURE)._replace(status=2),
-        raced("race --times 1", crowd(12)),
-        *stream_cases(),
-    ]
+    for name in ("calls-in-flight", "alloc-punch-and-store-under-a-quota", "resize-keeps-reserved-frames"):
+        trace = example(f"{name}.trace")
+        yield Case("replay", trace, lines=trace.count("\n") - 1)
+    yield Case("replay", example("a-bad-line.trace"))
+    yield Case("draw", example("quota-goes-to-the-map.trace"))
+    reads = {"trace": wide, "script": script, "picture": PICTURE, "": ""}
+    # (where there is one processor runs are explored by no second thread)
+    explores = (os.cpu_count() or 1) > 1
+    for kind, words in ((kind, words) for kind, several in WORDS.items() for words in several):
+        command = words.split()[0]
+        alike = "header" if words == "race --trace" else "races" if command == "race" else "all"
+        starts = command == "race" or explores and command == "explore"
+        yield Case(words, SMALL if command in ("find", "minimize") else reads[kind], alike, starts=starts, status=status_of(words))
+    yield Case("find --seed 7 --answer 1:2=beyond", script, starts=explores, status=2)
+    yield Case("minimize --answer 1:2=beyond", example("truncate-overtakes-a-store.trace"), status=2)
+    for words in ("replay --help", "nothing", "replay --all", "explain --lines 4..3", "explain --tasks 65", "format", "step"):
+        yield Case(words, LOOSE)
+    yield from (Case(f"work {name}", "") for name in workloads())
+    yield from (Case(f"work {name} --on pool", "", starts=True) for name in ("shared", "alloc-instantiate-race"))
+    for words in ("explore --seed 7 --runs 3 --deny 100 --kill 10", "explore --summary --runs 3 --deny 100 --kill 10"):
+        yield Case(words, script, starts=explores)
+    yield Case("explore --runs 2 --audit", crowd(6), starts=explores)
+    # (the lines of the first part are written while the second is explored)
+    yield Case("explore --runs 513", "pool 1 1 1 1\n", starts=explores, lines=513)
+    yield Case("race --times 2", script, "races", starts=True, lines=2)
+    yield from (Case(f"race --times 1 {words}", script, "races", starts=True) for words in ("--cut 2", "--deny 100 --kill 200"))
+    yield Case("race --times 1", example("truncate-after-store.script"), "races", starts=True, waits=True)
+    yield Case("race --times 1", crowd(12), "races", starts=True)
+    yield from stream_cases()
 
 
-def stream_cases() -> list[Case]:
+def stream_cases() -> Iterator[Case]:
     """What is run with one read or write that fails."""
     calls = "begin 1 map 0 0 1\nbegin 1 unmap 0\n"
     trace, script, short = "pool 4 1 4 2\n" + "step 1\n" * 2_000, "pool 4 1 4 2\n" + calls * 400, "pool 4 1 4 2\n" + calls * 10
-    found = [plain_words(words, trace) for words in ("replay", "replay --color always", "explain", "draw", "check")]
-    more = "explain --compact --linux --tasks 1 --lines 2..1500", "explain --json", "replay --json", "draw --html"
-    found += [plain_words(words, trace) for words in more]
-    found += [plain_words(words, script) for words in ("schedule", "explore --runs 600", "explore --summary --runs 60")]
-    found += [plain_words("format", trace), plain_words("audit", PICTURE)._replace(status=2)]
-    found += [plain_words("minimize --final resv=0", trace)._replace(status=2)]
+    both = ("READ", "WRITE")
+    for words in (*WORDS["trace"], "replay --color always", "explain --compact --linux --tasks 1 --lines 2..1500"):
+        # (`step` answers each line before the next is read, so a read that fails behind the last leaves the output whole)
+        fails = ("WRITE",) if words == "step" else both
+        yield Case(words, short if words == "step" else trace, fails=fails, status=status_of(words))
+    yield from (Case(words, script, fails=both) for words in ("schedule", "explore --runs 600", "explore --summary --runs 60"))
+    yield Case("audit", PICTURE, fails=both, status=2)
     # (a race writes each line by itself)
-    found += [Case("race --times 3", short, is_race, is_race_front), Case("race --trace", short, begins_alike, begins_alike)]
-    writes = [plain_words(words, "")._replace(fails=("WRITE",)) for words in ("work readback", "--help")]
-    # (each line is answered before the next is read, so a read that fails behind the last leaves the output whole)
-    writes += [plain_words("step", short)._replace(fails=("WRITE",))]
+    yield from (Case(f"race {words}", short, alike, both) for words, alike in (("--times 3", "races"), ("--trace", "header")))
+    yield from (Case(words, "", fails=("WRITE",)) for words in ("work readback", "--help"))
     # (which run was found is said before the last write)
-    reads = [plain_words("find --final resv=1", script)._replace(fails=("READ",), status=2)]
-    return [*(it._replace(fails=("READ", "WRITE")) for it in found), *writes, *reads]
+    yield Case("find --final resv=1", script, fails=("READ",), status=2)
 
 
-def lines_of(*several: tuple[str, int]) -> str:
-    """Each of these lines so many times."""
-    return "".join(f"{line}\n" * times for line, times in several)
-
-
-def truncated_from_the_top() -> tuple[str, str]:
-    """A truncation that visits each index of a file, from the last one, which has a page, down to 1; and what its replay writes."""
-    begins = lines_of(("pool 2 1 1 1", 1), ("begin 1 allock 0 4095 1", 1), ("step 1", 10), ("begin 1 mapn 0 0 1", 1), ("step 1", 4))
-    placed = "head want locked missing changed taken committed unslot leave".split()
-    mapped, swept = "room enter leave".split(), ["size", "want", "locked", "unmap", "evict", "free", "unslot"]
-    visited = [*swept, *["want", "locked", "unslot"] * 4094, "tail", "settle", "leave"]
-    told = [("done", placed), ("mapped 0", mapped), ("done", visited)]
-    moves = "".join(f"begun\n{''.join(f'moved {it}{chr(10)}' for it in phases)}ended {answer}\n" for answer, phases in told)
-    state = "free 2 resv 0 calls 0\nfile 0 size 1 reserved 0 regions 0 pages 0 changes 0 spare 0\ntask 1 alive mappings 1 entries 0\n"
-    return begins + lines_of(("begin 1 trunc 0 1", 1), ("step 1", len(visited) + 1)), moves + state
-
-
-def stories() -> list[Case]:
+def stories() -> Iterator[Case]:
     """What hp_memory_tests reads."""
-    traces = [it for it in sorted((TOP / "examples").rglob("*.trace")) if not it.with_suffix(".err").exists()]
-    told = {it.read_text(encoding="utf-8"): it.with_suffix(".out").read_text(encoding="utf-8") for it in traces}
-    every = {**STORIES, **told, **dict([truncated_from_the_top()])}
-    return [Case("", it, is_same, is_front, ("GROWTH",), right, APART.get(it), tuple(BROUGHT.get(it, ()))) for it, right in every.items()]
+    for file in sorted([*STORIES.glob("*.out"), *(TOP / "examples").rglob("*.out")]):
+        trace, apart = file.with_suffix(".trace"), file.with_suffix(".apart")
+        if not file.with_suffix(".err").exists():
+            told = {it.suffix: it.read_text(encoding="utf-8") for it in (file, trace, apart) if it.exists()}
+            yield Case("", told.get(".trace", file.stem), right=told[".out"], apart=told.get(".apart"), brought=tuple(BROUGHT.get(file.stem, ())))
 
 
 def is_whole(case: Case, right: Told, told: Told) -> bool:
     """Whether a run is right to its end. One may be that was refused memory: a list that is collected is begun anew with less room."""
-    return (told.status, told.err) == (right.status, right.err) and case.is_right(told.out, right.out)
+    return (told.status, told.err) == (right.status, right.err) and case.agrees(told.out, right.out, True)
 
 
 def fault(case: Case, right: Told, told: Told) -> str | None:
@@ -309,14 +244,14 @@ def fault(case: Case, right: Told, told: Told) -> str | None:
         # (without memory for the words no command is known)
         if told.status not in ({1, case.status} if told.faults == "m" else {case.status}) or told.err != FAILED[told.faults]:
             return f"status {told.status}, and on standard error {told.err!r}"
-        is_short = case.is_front(told.out, right.out) and (told.faults == "m" or told.out != right.out)
+        is_short = case.agrees(told.out, right.out, False) and (told.faults == "m" or told.out != right.out)
         return None if is_short else f"its output is no front of the right one: {told.out[-100:]!r}"
     if told.faults == "t" and case.waits:
         is_so = (told.status, told.out, told.err) == (1, "", FAILED["m"])
         return None if is_so else f"it ended with {told.status} and {told.err!r} without a thread"
     if (told.status, told.err) != (right.status, right.err):
         return f"status {told.status}, and on standard error {told.err!r}, though nothing failed"
-    return None if case.is_right(told.out, right.out) else f"its output isn't right: {told.out[-100:]!r}"
+    return None if case.agrees(told.out, right.out, True) else f"its output isn't right: {told.out[-100:]!r}"
 
 
 def story_fault(case: Case, right: Told, told: Told) -> str | None:
@@ -434,10 +369,10 @@ def meetings(tasks: int, files: int) -> tuple[str, str, int]:
     return "race --times 1 --cut 1", f"pool {tasks} 1 64 {tasks}\n" + "".join(maps + stores), tasks - 1
 
 
-def is_met(program: Program, tasks: int, files: int, more: int = 0, seconds: int = PATIENCE) -> bool:
-    """Whether the threads of a race meet, as many as it has tasks, or more. On a busy machine they may take long to come."""
+def is_met(program: Program, tasks: int, files: int) -> bool:
+    """Whether the threads of a race meet, as many as it has tasks. On a busy machine they may take long to come."""
     words, script, before = meetings(tasks, files)
-    told = program.told(words, script, GROWTH=TELL_THREADS, MEET=tasks + more, AFTER=before, SECONDS=seconds)
+    told = program.told(words, script, GROWTH=TELL_THREADS, MEET=tasks, AFTER=before)
     return told.status == 0 and bool(RACED.fullmatch(told.out.strip())) and told.faults == "s" * (before + tasks - 1) + "m"
 
 
@@ -445,36 +380,45 @@ def meetings_tried(program: Program) -> Iterator[tuple[str, bool]]:
     """Whether the threads of a race begin together, and are in their calls together."""
     for tasks, files in ((2, 16), (3, 16), (16, 16), (2, 1), (17, 1), (33, 1), (64, 1)):
         yield f"{tasks} tasks, on {files} files, wait for the last, and are in their calls at once", is_met(program, tasks, files)
-    yield "four threads of three never meet", not is_met(program, 3, 16, 1, 10)
 
 
-Counts = dict[tuple[str, str], int]
+def growths(program: Program, words: str, read: str) -> int:
+    """How many growths a run has: the least number that isn't refused, less one."""
+    return bisect_left(range(MOST), True, lo=1, key=lambda number: not program.told(words, read, GROWTH=number).faults) - 1
 
 
-def refusals(program: Program, several: list[Case], judge: Judge, pool: ThreadPoolExecutor, counts: Counts) -> Iterator[tuple[str, bool]]:
-    """Whether each case ends as it should where one of its calls fails; and how many did."""
+def audits_tried(program: Program) -> Iterator[tuple[str, bool]]:
+    """Whether each run is audited, which takes memory for a picture after each turn. (Runs of one task are alike.)"""
+    begins = "pool 64 1 64 1\nbegin 1 alloc 0 0 8\nbegin 1 punch 0 0 8\n"
+    more = lambda runs: growths(program, f"explore --audit --runs {runs}", begins) - growths(program, f"explore --runs {runs}", begins)
+    one, four = more(1), more(4)
+    yield f"each of four runs is audited ({one} growths for one, {four} for four)", four > 3 * one > 30
+
+
+def refusals(program: Program, several: Iterable[Case], judge: Judge, pool: ThreadPoolExecutor) -> Iterator[tuple[str, bool]]:
+    """Whether each case ends as it should where one of its calls fails."""
+    counts = []
     for case in several:
-        counts[case.words, case.read], found = faults(program, case, pool, judge)
+        count, found = faults(program, case, pool, judge)
+        counts.append(count)
         yield "; ".join(found[:3]), not found
+    print(f"growths: {sum(counts)} calls of {program.path.name} failed, one a run")
 
 
 def tries(loaded: Path, pool: ThreadPoolExecutor) -> Iterator[tuple[str, bool]]:
     """What is tried, and whether it went as it should."""
-    program, teller, counts = Program(tested(), loaded), program_of("hp_memory_tests"), {}
+    program, teller = Program(tested(), loaded), Program(program_of("hp_memory_tests"), loaded)
+    yield "each command is run", {words.split()[0] for several in WORDS.values() for words in several} >= {*commands()} - {"help"}
     if is_proved():
-        yield from refusals(program, cases(), fault, pool, counts)
-        # an audit takes memory for a picture after each turn: there are several times as many growths (the word itself takes some, too)
-        with_audit, without = (counts[f"explore --runs 2{it}", crowd(6)] for it in (" --audit", ""))
-        yield f"explore --audit takes memory of its own ({with_audit} growths, {without} without it)", with_audit > 2 * without
+        yield from refusals(program, cases(), fault, pool)
+        yield from audits_tried(program)
     else:
         print("left out: failed allocations, reads and writes of commands: they need the proved program")
-    if is_current(teller, "hp_memory_tests"):
-        driver = Case("", "", is_same, is_front, brought=tuple(stores_told(*it) for it in STORES))
-        yield from refusals(Program(teller, loaded), stories(), story_fault, pool, counts)
-        yield from refusals(Program(teller, loaded), [driver], driver_fault, pool, counts)
+    if is_current(teller.path, "hp_memory_tests"):
+        yield from refusals(teller, stories(), story_fault, pool)
+        yield from refusals(teller, [Case("", "", brought=tuple(stores_told(*it) for it in STORES))], driver_fault, pool)
     else:
         print("left out: failed allocations in scenarios (hp_memory_tests): they need its proved program (./check all)")
-    print(f"growths: {sum(counts.values())} calls failed, one a run")
     yield from threads_tried(program)
     yield from meetings_tried(program)
 
