@@ -30,8 +30,7 @@ from pathlib import Path
 from typing import Iterator, NamedTuple
 
 import check
-from programs import TOP, commands, crates_of, is_proved, report, run, sources_of, tested
-from rows import first_difference
+from programs import TOP, commands, crates_of, first_difference, is_proved, report, run, sources_of, tested
 
 # what documents tell of the kernel's sources, and of the machine
 ELSEWHERE = ("mm/", "fs/", "Documentation/", "~", "/")

@@ -5,7 +5,9 @@ Each trace of examples/ and of the folders in it is replayed: NAME.out has the o
 status, where they aren't nothing and 0. NAME.explained is what is written where the trace is explained, and docs/pictures/NAME.svg what
 is drawn of it.
 The lines of JSON of each trace are as Python's writer writes them, and a page holds these lines.
-All these, and those of examples/commands/, are rows (rows.py).
+All these are rows, as are the tables `[[row]]` of examples/commands/NAME.toml; examples/README.md lists their keys. A row may hand the
+program streams that fail: an input that breaks off, an output with room for some bytes, a full standard error. They are the system's own (a
+socket whose other end is reset, a limit on the size of files, /dev/full), so the whole program runs as it ships.
 Each script is explored by the words behind each `#` of the file NAME.lines beside it, and its lines are compared with those
 below the words. It is raced some times in threads, too, whole, in parts, and where steps are denied and tasks killed: every race has to be
 closed.
@@ -15,16 +17,22 @@ from __future__ import annotations
 import json
 import os
 import re
+import resource
+import shlex
+import signal
+import socket
+import subprocess
 import sys
+import tempfile
+import tomllib
 from collections import Counter
 from concurrent.futures import ThreadPoolExecutor
+from dataclasses import dataclass, field, replace
 from pathlib import Path
-from typing import Iterator, NamedTuple
+from typing import IO, Callable, Iterator, NamedTuple
 
 import page
-import rows
-from programs import TOP, Ran, is_proved, report, run, tested
-from rows import Row, first_difference
+from programs import TOP, Ran, first_difference, is_proved, report, run, tested
 
 FOLDER = TOP / "examples"
 COMMANDS = FOLDER / "commands"
@@ -36,7 +44,179 @@ CUTS = ("", *(f" --cut {calls}" for calls in range(1, 7)))
 CHANCES = " --deny 50 --kill 200"
 # the bytes of an input that the program without proof reads too slowly
 LARGE = 100_000
+# a run that takes longer hangs
+SECONDS = 600
+# in command lines and on standard error this stands for the name of a file that has the input
+NAMED = "{file}"
+# `LINE x12` stands for twelve lines
+REPEATED = re.compile(r"^(.*) x(\d+)$", re.MULTILINE)
 RACED = re.compile(r"run \d+ closed entries \d+ free \d+ resv \d+")
+
+
+@dataclass(frozen=True)
+class Row:
+    """Command lines that all do the same, their streams, and what has to come of each."""
+
+    name: str
+    words: list[str]
+    status: int = 0
+    # the input as it stands; or a trace with repeated lines, and behind it numbered rounds
+    stdin: str = ""
+    trace: str = ""
+    rounds: dict[str, int | str] = field(default_factory=dict)
+    # the streams that fail
+    breaks: bool = False
+    room: list[int] | str | None = None
+    stderr_is_full: bool = False
+    # the reader of the output leaves before anything is written
+    leaves: bool = False
+    # what is written: a text, or names of the file's texts; or some of it
+    stdout: str | None = None
+    stdout_starts: str = ""
+    stdout_ends: str = ""
+    stdout_holds: list[str] = field(default_factory=list)
+    stdout_lines: int | None = None
+    stderr: str = ""
+    stderr_starts: str = ""
+
+    def is_partly_said(self) -> bool:
+        """Whether the row says something of its output, but not all of it."""
+        return bool(self.stdout_starts or self.stdout_ends or self.stdout_holds or self.stdout_lines)
+
+    def read(self) -> bytes:
+        """The input."""
+        text = self.trace
+        if self.rounds:
+            lines = str(self.rounds["lines"])
+            text += "".join(lines.replace("{n}", str(n)) for n in range(0, int(self.rounds["below"]), int(self.rounds["by"])))
+        return (self.stdin + REPEATED.sub(lambda it: "\n".join([it[1]] * int(it[2])), text)).encode()
+
+
+def rows_of(file: Path) -> list[Row]:
+    """The rows of a file. A key that is none of a row's is an error."""
+    tables = tomllib.loads(file.read_text(encoding="utf-8"))
+    texts = tables.get("texts", {})
+    found = []
+    for table in tables["row"]:
+        if isinstance(table.get("stdout"), list):
+            table["stdout"] = "".join(texts[name] for name in table["stdout"])
+        found.append(Row(**table))
+    return found
+
+
+def output_fault(row: Row, out: str) -> str | None:
+    """What is wrong with the output of a run, if anything is."""
+    wanted = row.stdout if row.stdout is not None or row.is_partly_said() else ""
+    if wanted is not None and out != wanted:
+        return first_difference(out.split("\n"), wanted.split("\n"))
+    if not out.startswith(row.stdout_starts):
+        return f"it starts with {out[:200]!r}"
+    if not out.endswith(row.stdout_ends):
+        return f"it ends with {out[-200:]!r}"
+    if row.stdout_lines is not None and out.count("\n") != row.stdout_lines:
+        return f"it has {out.count(chr(10))} lines"
+    absent = [it for it in row.stdout_holds if out.count(it) != 1]
+    return f"{absent[0]!r} stands in it {out.count(absent[0])} times" if absent else None
+
+
+def fault(row: Row, ran: Ran) -> str | None:
+    """What is wrong with a run, if anything is."""
+    if ran.status != row.status:
+        return f"status {ran.status}: {ran.err.strip()}"
+    if wrong := output_fault(row, ran.out):
+        return wrong
+    is_right = ran.err.startswith(row.stderr_starts) if row.stderr_starts else ran.err == row.stderr
+    return None if is_right else f"on standard error {ran.err!r}"
+
+
+def broken(read: bytes) -> socket.socket:
+    """An input that gives these bytes, and then an error: its other end is closed with a byte unread, which resets it."""
+    ours, its = socket.socketpair()
+    its.sendall(b"?")
+    ours.sendall(read)
+    ours.close()
+    return its
+
+
+def limited(room: int) -> Callable[[], None]:
+    """Lets the files that a new process writes have so many bytes: a write beyond fails."""
+
+    def limit() -> None:
+        signal.signal(signal.SIGXFSZ, signal.SIG_IGN)
+        resource.setrlimit(resource.RLIMIT_FSIZE, (room, room))
+
+    return limit
+
+
+def unread() -> IO[bytes]:
+    """An output that nobody reads."""
+    reads, writes = os.pipe()
+    os.close(reads)
+    return os.fdopen(writes, "wb")
+
+
+def run_row(program: Path, words: str, row: Row, room: int | None) -> Ran:
+    """Runs the program over the row's streams, with room for so many bytes of output where a number is given."""
+    with tempfile.NamedTemporaryFile() as source, tempfile.TemporaryFile() as out, open("/dev/full", "wb") as full, unread() as left:
+        source.write(row.read())
+        source.flush()
+        source.seek(0)
+        stdin: IO[bytes] | socket.socket = broken(row.read()) if row.breaks else source.file
+        ran = subprocess.run(
+            ["hugepool", *shlex.split(words.replace(NAMED, source.name))],
+            executable=program,
+            stdin=stdin,
+            stdout=left if row.leaves else out,
+            stderr=full if row.stderr_is_full else subprocess.PIPE,
+            preexec_fn=None if room is None else limited(room),
+            timeout=SECONDS,
+            check=False,
+        )
+        if isinstance(stdin, socket.socket):
+            stdin.close()
+        out.seek(0)
+        said = (ran.stderr or b"").decode(errors="replace").replace(source.name, NAMED)
+        return Ran(ran.returncode, out.read().decode(errors="replace"), said)
+
+
+def rooms(row: Row, most: int) -> list[int]:
+    """For how many bytes of an output of this length there is room; a negative number counts from the end."""
+    if row.room == "every":
+        return list(range(most))
+    return [it if it >= 0 else most + it for it in row.room or []]
+
+
+def front_fault(program: Path, words: str, row: Row) -> str | None:
+    """What is wrong where an output has room for a part of what is written: as much of it, and the fault, has to come."""
+    assert row.room == "every" or isinstance(row.room, list), f"{row.name}: no room is {row.room}"
+    whole = (row.stdout if row.stdout is not None else run_row(program, words, row, None).out).encode()
+    for room in rooms(row, len(whole)):
+        front = replace(row, stdout=whole[:room].decode(errors="replace"))
+        if wrong := fault(front, run_row(program, words, row, room)):
+            return f"room for {room} bytes: {wrong}"
+    return None
+
+
+def row_fault(program: Path, words: str, row: Row) -> str | None:
+    """What is wrong with the runs of one command line of a row, or with the row itself, if anything is."""
+    try:
+        if row.room is not None:
+            return front_fault(program, words, row)
+        return fault(row, run_row(program, words, row, None))
+    except subprocess.TimeoutExpired:
+        return "it does not end"
+
+
+def rows_below(folder: Path) -> list[tuple[str, Row]]:
+    """All rows of a folder, each with the name of its file and its own."""
+    return [(f"{file.name}: {row.name}", row) for file in sorted(folder.glob("*.toml")) for row in rows_of(file)]
+
+
+def row_tries(program: Path, name: str, row: Row) -> Iterator[tuple[str, bool]]:
+    """Each command line of a row, and whether it does what the row says."""
+    for words in row.words:
+        wrong = row_fault(program, words, row)
+        yield f"{name}: {program.name} {words}: {wrong}", not wrong
 
 
 class Need(NamedTuple):
@@ -152,7 +332,7 @@ def race_fault(ran: Ran) -> str | None:
 
 
 def json_tries(program: Path, name: str) -> Iterator[tuple[str, bool]]:
-    """Whether the lines of JSON of a trace are as Python writes them, who else writes them, and what a page is. (What they say is proved.)"""
+    """Whether the lines of JSON of a trace are as Python writes them, and those of a page. (What they say is proved.)"""
     trace, status = text(name, ".trace"), int(text(name, ".status", "0"))
     if status:
         return
@@ -166,13 +346,13 @@ def json_tries(program: Path, name: str) -> Iterator[tuple[str, bool]]:
 def tries(program: Path, pool: ThreadPoolExecutor) -> Iterator[tuple[str, bool]]:
     """What is tried, and whether it went as it should."""
     yield from listings()
-    several = [*trace_rows(), *rows.rows_below(COMMANDS)]
+    several = [*trace_rows(), *rows_below(COMMANDS)]
     yield "there are rows", bool(several)
     large = [it for it in several if len(it[1].read()) > LARGE and not is_proved()]
     print(f"left out: {len(large)} rows of large inputs: they need the proved program\n" if large else "", end="")
     several = [it for it in several if it not in large]
     begun = [pool.submit(lambda name=name: [*script_tries(program, name)]) for name in sorted(names(".script"))]
-    begun += [pool.submit(lambda it=it: [*rows.tries(program, *it)]) for it in several]
+    begun += [pool.submit(lambda it=it: [*row_tries(program, *it)]) for it in several]
     begun += [pool.submit(lambda name=name: [*json_tries(program, name)]) for name in sorted(names(".trace"))]
     for it in begun:
         yield from it.result()

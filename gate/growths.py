@@ -40,8 +40,7 @@ FAILED = {
 }
 
 
-# what hp_memory_tests tells where nothing is refused, by what it reads (NAME.out), and where no second thread can be made (NAME.apart); of a
-# trace, what its replay writes
+# what hp_memory_tests tells where nothing is refused, by what it reads (NAME.out), and where no second thread can be made (NAME.apart)
 STORIES = TOP / "crates" / "hp_memory_tests" / "stories"
 # of two stores over a driver: how the first ended, the numbers of the pool then, and how the second ended; where both are made, ..
 BOTH_DONE = ("done", "tally 1 0 1 1", "done")
@@ -228,7 +227,8 @@ def stories() -> Iterator[Case]:
         trace, apart = file.with_suffix(".trace"), file.with_suffix(".apart")
         if not file.with_suffix(".err").exists():
             told = {it.suffix: it.read_text(encoding="utf-8") for it in (file, trace, apart) if it.exists()}
-            yield Case("", told.get(".trace", file.stem), right=told[".out"], apart=told.get(".apart"), brought=tuple(BROUGHT.get(file.stem, ())))
+            brought = tuple(BROUGHT.get(file.stem, ()))
+            yield Case("", told.get(".trace", file.stem), right=told[".out"], apart=told.get(".apart"), brought=brought)
 
 
 def is_whole(case: Case, right: Told, told: Told) -> bool:

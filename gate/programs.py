@@ -47,6 +47,13 @@ def run(program: Path, words: str, read: str | bytes = b"", **how) -> Ran:
     return Ran(ran.returncode, ran.stdout.decode(errors="replace"), ran.stderr.decode(errors="replace"))
 
 
+def first_difference(printed: list[str], wanted: list[str]) -> str:
+    """The first line that differs, and how."""
+    at = next((k for k, (a, b) in enumerate(zip(printed, wanted)) if a != b), min(len(printed), len(wanted)))
+    of = lambda lines: repr(lines[at]) if at < len(lines) else "nothing"
+    return f"line {at + 1}: {of(printed)}, and not {of(wanted)}"
+
+
 def report(name: str, tries: Iterable[tuple[str, bool]]) -> int:
     """Prints what did not go as it should, and the counts. The status is 1 where anything didn't, or where nothing was tried."""
     tried = list(tries)

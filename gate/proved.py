@@ -3,10 +3,10 @@
 
 A row's second column names calls: `hp_frames::Bank::{take, free}`, or `Bank::take` below the heading of its crate; `Bank`'s calls, the
 invariant of a `Bank`, its `Display`, the same (as in the row before), and `..` for all public ones. Behind "in" stands the file. Its
-third names clauses: `after`, `ok`; its contract; clauses without a name; its type. Each name is a clause of one of the row's calls, or a definition
-that one of its clauses cites, and each call has one of them. In parentheses stand definitions, which have to be in specs. What the tables
-leave out stands below "What isn't listed". Compared are also the theorems that no call of the core is named after, and the clauses that
-docs/POOL.md names.
+third names clauses: `after`, `ok`; its contract; clauses without a name; its type. Each name is a clause of one of the row's calls, or a
+definition that one of its clauses cites, and each call has one of them. In parentheses stand definitions, which have to be in specs. What
+the tables leave out stands below "What isn't listed". Compared are also the theorems that no call of the core is named after, and the
+clauses that docs/POOL.md names.
 """
 from __future__ import annotations
 
