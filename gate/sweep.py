@@ -239,7 +239,8 @@ def long_script(calls: int) -> str:
 
 def soaked(program: Path) -> Iterator[tuple[str, bool]]:
     """A long race in threads, of calls of all kinds."""
-    asked = long_script(100_000 if is_proved() else 2_000)
+    # (beside other processes each wait of a thread takes milliseconds, so a longer one takes minutes)
+    asked = long_script(20_000 if is_proved() else 2_000)
     for cut in ("", " --cut 1000"):
         yield f"a long race{cut} is closed", bool(raced(program, cut, asked))
 
