@@ -10,7 +10,8 @@
  * used at the same time. (This is argued, not proved; malloc and free have to be such, too.)
  *
  * Codes: each call answers HUGEPOOL_OK or a code. After a code the pool is as it was, and so is what a call would have told, but for
- * *needed, *line and *done. Numbers that name nothing are refused by a code, whatever they are.
+ * *needed, *line and *done, and for the events that hugepool_events made before it stopped. Numbers that name nothing are refused by a
+ * code, whatever they are.
  *
  * const: a pool that is given as const is the same after the call. While it runs, it uses the handle's bytes, so the object that you keep
  * isn't const itself.
@@ -18,9 +19,12 @@
  * What a call owes is what C's types can't say: pointers aren't null and point to what they are declared to, or to as many as the count
  * beside them says (a count of 0 wants a pointer, too); two of them don't overlap; a bool is 0 or 1.
  *
- * What each call promises is proved, but for what the words of hugepool_reason say and of which lines it knows any, and that memory is
- * wanting where a call says so other than hugepool_event and hugepool_events (docs/LIBRARY.md says of what it is proved, and what is
- * trusted). The names behind "---- names" are no calls of the library, but text of this header.
+ * What each call promises is proved, but for this (docs/LIBRARY.md says of what it is proved, and what is trusted):
+ * - what the words of hugepool_reason say, and of which lines it knows any;
+ * - that memory is wanting where a call says so other than hugepool_event and hugepool_events;
+ * - that memory is given back: by hugepool_close, by a call that opens or copies into a pool that was open, and by any call that fails.
+ *   That is tested, with sanitizers.
+ * The names behind "---- names" are no calls of the library, but text of this header.
  *
  * The ABI: the soname libhugepool.so.1 stands for it. While it stays, no call, number or field that is here changes or goes; a new
  * version may add calls, constants, and codes of calls that are new. A struct never grows: a call that tells more has another name.
