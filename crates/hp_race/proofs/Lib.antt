@@ -2,3 +2,4 @@ pub mod Lines
 pub mod Making
 pub mod Parting
 pub mod Told
+mod Kept

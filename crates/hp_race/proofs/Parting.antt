@@ -1,7 +1,7 @@
 -- Parts of a race, one after the other.
 use Rattle.std.proofs.Common.{◌≡◌, ℕ, ◌+◌, List, [], ◌∷◌, ◌++◌, Bool, refl, sym, ap, subst, ◌∙◌, length, map, take, drop}
 use Rattle.std.proofs.Common.{get_or, ◌<◌, ◌≤◌, max, inl, inr, arith}
-use Rattle.std.specs.Prelude.{true, false, Option, Some, None, is_some, MatchBool, MatchOption, All}
+use Rattle.std.specs.Prelude.{◌&&◌, true, false, not, Option, Some, None, is_some, MatchOption, All}
 use Rattle.std.proofs.lemmas.Bool.{cases_lt, false≢true}
 use Rattle.std.proofs.lemmas.List.{append-nil, drop_all, length-map, take_all, take_more}
 use Rattle.std.proofs.lemmas.List.Elements.{All-map}
@@ -22,13 +22,15 @@ use Rattle.hp_shared.specs.States.{SeatState, tally_of}
 use Rattle.hp_shared.specs.declared.entry.Entry.{Entry}
 use Rattle.hp_shared.specs.declared.fault.CloseFault.{CloseFault}
 use Rattle.hp_shared.specs.declared.fault.CloseFault.TheVariants as fault
-use Rattle.hp_race.specs.Racers.{HasMadeIn, IsNew, SomeStrayedIn}
+use Rattle.hp_race.specs.Racers.{AreFoundIn, AreFoundInAs, HasMadeInBut, IsNew, are_gone_in}
+use Rattle.hp_race.specs.declared.racer.Found.{Found}
+use Rattle.hp_race.proofs.Making.{made_in_by_gone}
 use Rattle.hp_race.specs.Parts.{AreParts, GoesOn, IsAgain, IsPart, IsToTheEnd, IsToldInParts, IsToldInPartsAs}
 use Rattle.hp_race.specs.Parts.{IsVerdictOnParts, Part, call_range}
 use Rattle.hp_race.specs.Races.{Counts, IsToldOfRefused}
 use Rattle.hp_race.specs.declared.line.Race.{Race}
 use Rattle.hp_race.specs.declared.line.Verdict.{Verdict}
-use Rattle.hp_race.specs.declared.line.Verdict.TheVariants.{Closed, Disagree, Astray}
+use Rattle.hp_race.specs.declared.line.Verdict.TheVariants.{Closed, Disagree, Astray, Late}
 use Rattle.hp_race.specs.declared.call_range.CallRange.{CallRange}
 use Rattle.hp_race.proofs.Told.{pool_came}
 
@@ -86,20 +88,33 @@ same_items now items len full same new =
     ∙ take_all len now (omega (arith, full, same)) in
     subst (λ (l : List SeatState). All IsNew l) (sym whole) new
 
--- seats that made their calls, and what is cut off then, are a part
-pub part_made : (mortal : Bool) (script : Script) (calls : CallRange) (position now : ℕ) (start new : CoreState) (seats : List SeatState)
-    (made : Bool)
-    → made ≡ true → MatchBool made (All (HasMadeIn mortal script calls) seats) (SomeStrayedIn mortal script calls seats)
+-- seats that made their calls, and what is cut off then, are a part, where all are gone of which calls were refused
+pub part_made : (mortal : Bool) (script : Script) (calls : CallRange) (position now : ℕ) (start new : CoreState) (found : Found)
+    (seats : List SeatState) (is_made : Bool)
+    → is_made ≡ true → is_made ≡ (not found.astray && not found.late) → AreFoundIn mortal script calls found seats
+    → are_gone_in new found.refused.items ≡ true
     → AllSeated script.config.tasks seats → length seats ≡ script.config.tasks
     → ((es : List Entry) × Interleaves position es (lists_of seats) × Follows start es new × (now ≡ position + length es))
     → (part : Part) × IsPart mortal script calls position start part × (now ≡ position + length part.entries) × (new ≡ part.core)
-part_made mortal script calls position now start new seats false is had seated count cut = absurd (false≢true is)
-part_made mortal script calls position now start new seats true is had seated count cut = (
+part_made mortal script calls position now start new found seats is_made well so had gone seated count cut = (
   record { seats = seats; entries = cut.0; core = new },
-  record { seated = seated; count = count; made = had; order = cut.1; run = cut.2 },
+  record {
+    seated = seated;
+    count = count;
+    made =
+        made_in_by_gone mortal script calls new found.refused.items seats gone (by found.astray found.late (sym so ∙ well) had);
+    order = cut.1;
+    run = cut.2;
+  },
   cut.3,
   refl,
 )
+  where
+    by : (a l : Bool) → (not a && not l) ≡ true → AreFoundInAs mortal a l script calls found.refused.items seats
+        → All (HasMadeInBut mortal script calls found.refused.items) seats
+    by true l made some = absurd (false≢true made)
+    by false true made some = absurd (false≢true made)
+    by false false made all = all
 
 -- whatever parts come behind one more come behind those before it
 pub parts_on : (mortal : Bool) (script : Script) (most from next position now begun : ℕ) (start core new : CoreState)
@@ -163,6 +178,9 @@ told_parts_as mortal script most made opened core pool begun entries first told 
     }
 told_parts_as mortal script most made opened core pool begun entries first told journal seats race (Disagree position) opening new parts
     closes all counts is =
+    absurd is
+told_parts_as mortal script most made opened core pool begun entries first told journal seats race Late opening new parts closes all counts
+    is =
     absurd is
 told_parts_as mortal script most made opened core pool begun entries first told journal seats race Astray opening new parts closes all
     counts is =

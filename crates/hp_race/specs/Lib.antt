@@ -1,5 +1,6 @@
 pub mod Calls
 pub mod Draws
+pub mod Keeping
 pub mod Racers
 pub mod Parts
 pub mod Races

@@ -10,11 +10,11 @@ use Rattle.hp_shared.specs.Closing.{ClosesPoolOf}
 use Rattle.hp_shared.specs.Journal.{Follows, Interleaves, IsCameTo}
 use Rattle.hp_shared.specs.Seats.{AllSeated, lists_of}
 use Rattle.hp_shared.specs.States.{SeatState, tally_of}
-use Rattle.hp_race.specs.Racers.{HasMadeIn}
+use Rattle.hp_race.specs.Racers.{HasMadeInBy}
 use Rattle.hp_race.specs.Races.{Counts, IsDisagreed, IsTold}
 use Rattle.hp_race.specs.declared.line.Race.{Race}
 use Rattle.hp_race.specs.declared.line.Verdict.{Verdict}
-use Rattle.hp_race.specs.declared.line.Verdict.TheVariants.{Closed, Disagree, Astray}
+use Rattle.hp_race.specs.declared.line.Verdict.TheVariants.{Closed, Disagree, Astray, Late}
 use Rattle.hp_race.specs.declared.call_range.CallRange.{CallRange}
 
 -- A part of a race: the seats with what each made in it, the entries of the journal, and the core to which they led
@@ -27,11 +27,11 @@ abbrev pub call_range : (from most : ℕ) → CallRange
 call_range from most = record { from = from; most = most }
 
 -- Each task made a range of the script's calls of it, and the entries, whose positions begin with this one, are an interleaving
--- of the lists of one seat a task and lead from that core to the part's
+-- of the lists of one seat a task and lead from that core to the part's, in which no task is alive of which calls were refused
 pub record IsPart (mortal : Bool) (script : Script) (calls : CallRange) (position : ℕ) (start : CoreState) (part : Part) : Type 0 where
   pub seated : AllSeated script.config.tasks part.seats
   pub count : length part.seats ≡ script.config.tasks
-  pub made : All (HasMadeIn mortal script calls) part.seats
+  pub made : All (HasMadeInBy mortal script calls part.core) part.seats
   pub order : Interleaves position part.entries (lists_of part.seats)
   pub run : Follows start part.entries part.core
 
@@ -63,6 +63,7 @@ abbrev pub IsVerdictOnParts : (made : Bool) → (same : Type 0) → Verdict → 
 IsVerdictOnParts made same Closed = (made ≡ true) × same
 IsVerdictOnParts made same (Disagree position) = ⊥
 IsVerdictOnParts made same Astray = (made ≡ false) ⊎ (¬ same)
+IsVerdictOnParts made same Late = ⊥
 
 -- The race was closed: its parts, one after the other, are a run from the opening of the script's pool to the core whose numbers are
 -- told. Behind the last part the pool that was closed, one of the script's config, had nothing in its journal, as many entries
@@ -79,8 +80,8 @@ pub record IsClosedInParts (mortal : Bool) (script : Script) (most : ℕ) (race 
   pub rest : ClosesPoolOf script.config seats pool race.entries []
   pub same : tally_of pool ≡ tally_of core
 
--- The race was given up: a call ended as none may, a cut was refused, or what was cut off or closed isn't what happened to a pool
--- of the script. The numbers are those of a core that some pool came to
+-- The race was given up: a call ended as none may or was left, a cut was refused, or what was cut off or closed isn't what happened
+-- to a pool of the script. The numbers are those of a core that some pool came to
 pub record IsGivenUp (race : Race) : Type 0 where
   pub core : CoreState
   pub came : IsCameTo core
@@ -91,6 +92,7 @@ abbrev pub IsToldInPartsAs : (mortal : Bool) → Script → (most : ℕ) → Ver
 IsToldInPartsAs mortal script most Closed race = IsClosedInParts mortal script most race
 IsToldInPartsAs mortal script most (Disagree position) race = IsDisagreed script position race
 IsToldInPartsAs mortal script most Astray race = IsGivenUp race
+IsToldInPartsAs mortal script most Late race = ⊥
 
 -- what is told of a race whose journal is cut behind so many calls of each task is so
 abbrev pub IsToldInParts : (mortal : Bool) → Script → (most : ℕ) → Race → Type 0

@@ -3,12 +3,13 @@ use Rattle.std.specs.Prelude.{ℕ, ◌+◌, List, [], ◌∷◌, ◌++◌, codes
 use Rattle.std.specs.Fmt.{decimal}
 use Rattle.hp_race.specs.declared.line.Race.{Race}
 use Rattle.hp_race.specs.declared.line.Verdict.{Verdict}
-use Rattle.hp_race.specs.declared.line.Verdict.TheVariants.{Closed, Disagree, Astray}
+use Rattle.hp_race.specs.declared.line.Verdict.TheVariants.{Closed, Disagree, Astray, Late}
 
 abbrev pub verdict_text : Verdict → List ℕ
 verdict_text Closed = codes "closed"
 verdict_text (Disagree position) = codes "disagree " ++ decimal position
 verdict_text Astray = codes "astray"
+verdict_text Late = codes "late"
 
 -- `VERDICT entries N free F resv R`
 abbrev pub race_text : Race → List ℕ

@@ -7,7 +7,7 @@ use Rattle.hp_base.specs.declared.event.Event.{Event}
 use Rattle.hp_text.specs.declared.script.Script.{Script}
 use Rattle.hp_race.specs.declared.line.Race.{Race}
 use Rattle.hp_race.specs.declared.line.Verdict.{Verdict}
-use Rattle.hp_race.specs.declared.line.Verdict.TheVariants.{Closed, Disagree, Astray}
+use Rattle.hp_race.specs.declared.line.Verdict.TheVariants.{Closed, Disagree, Astray, Late}
 use Rattle.hp_race.specs.Parts.{IsToldBy}
 use Rattle.hp_race.specs.Races.{IsTraceOf, IsUnclosed}
 use Rattle.hp_race.specs.Text.{lines_text}
@@ -18,6 +18,7 @@ abbrev pub is_verdict_closed : Verdict → Bool
 is_verdict_closed Closed = true
 is_verdict_closed (Disagree position) = false
 is_verdict_closed Astray = false
+is_verdict_closed Late = false
 
 abbrev pub is_closed : Race → Bool
 is_closed race = is_verdict_closed race.verdict

@@ -13,6 +13,8 @@ pub enum Verdict {
     Disagree(u64),
     /// A call ended as none may, or what was closed isn't the pool that was opened.
     Astray,
+    /// A call was left, and those behind it: what it waits for didn't end for long, while some thread hadn't come to the start.
+    Late,
 }
 
 /// How a race ended, after how many entries of the journal, and what the pool's counts were then.
@@ -35,6 +37,7 @@ impl fmt::Display for Verdict {
             Verdict::Closed => f.write_str("closed"),
             Verdict::Disagree(position) => write!(f, "disagree {position}"),
             Verdict::Astray => f.write_str("astray"),
+            Verdict::Late => f.write_str("late"),
         }
     }
 }

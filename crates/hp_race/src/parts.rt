@@ -13,8 +13,8 @@ use crate::again::Again;
 use crate::call_range::CallRange;
 use crate::chances::Chances;
 use crate::line::Race;
-use crate::racer::{Track, make_range};
-use crate::telling::{told_of_parts, told_of_refused};
+use crate::racer::{Ran, Track, make_range};
+use crate::telling::{are_gone, told_of_parts, told_of_refused};
 use hp_base::Task;
 use hp_shared::{CutFault, Seat, Shared, missing_seat};
 use hp_text::Script;
@@ -123,15 +123,19 @@ fn make_part<L: Ledger + Send + Sync, R: Threads + Wait + Sync>(
         × (again.new.entries ≡ again.old.entries + length part.entries)
         × (again.new.core ≡ part.core)) }
 {
-    let (made, mut seats) = make_range(rt, alloc, track, script, call_range, seats)?;
-    if !made {
+    let ran = make_range(rt, alloc, track, script, call_range, seats)?;
+    let Ran { mut seats, found } = ran;
+    if !found.is_made() {
         return Ok((false, seats));
     }
     if missing_seat(script.config.tasks, seats.as_slice()).is_some() {
         return Ok((false, seats));
     }
-    let cut = cut_part(rt, alloc, track.shared, again, &mut seats)?;
-    Ok((cut, seats))
+    if !cut_part(rt, alloc, track.shared, again, &mut seats)? {
+        return Ok((false, seats));
+    }
+    let gone = are_gone(&again.core, found.refused.as_slice());
+    Ok((gone, seats))
 }
 
 // Cuts the journal, which compares it with the seats' lists. Whether it is cut, and what is cut off goes on from what was before.

@@ -1,17 +1,17 @@
 //! A task's place in a race: its seat, and the calls that it is to make.
-ghost use Rattle.std.specs.Prelude.{◌≡◌, ◌+◌, Bool, IfOk, OnOk, All, true, false, length, nat_lt, [], MatchBool};
+ghost use Rattle.std.specs.Prelude.{◌≡◌, ◌+◌, Bool, IfOk, OnOk, All, true, false, length, nat_lt, [], ◌&&◌, not};
 ghost use Rattle.std.specs.List.{list_any};
 ghost use Rattle.hp_text.specs.Scripts.{calls_of};
 ghost use Rattle.hp_machine.specs.Events.{is_exit};
-ghost use Rattle.hp_race.specs.Calls.{CallEndsBy, EndsBy, MayKill, is_mortal, may_end};
-ghost use Rattle.hp_race.specs.Racers.{HasMadeIn, HasRun, HasStrayedIn, IsNew, IsSet, SomeStrayedIn, calls_in, is_gone};
+ghost use Rattle.hp_race.specs.Calls.{CallEndsBy, EndsBy, MayKill, ending_of, is_mortal, may_end, met};
+ghost use Rattle.hp_race.specs.Racers.{AreFoundIn, HasMadeIn, HasRun, IsNew, IsSet, calls_in, is_gone};
 ghost use Rattle.hp_race.specs.Waiting.{IsBoardOf};
 
 use crate::call_range::CallRange;
 use crate::chances::{Chances, Draws, stream};
 use crate::starting_line::{Course, StartingLine};
 use crate::waiting::{Board, Turns};
-use hp_base::{Event, Op};
+use hp_base::{Event, Op, Task};
 use hp_core::{Refusal, is_exit};
 use hp_shared::{CallFault, Halting, Hold, Reply, Seat, Shared, call};
 use hp_text::Script;
@@ -26,8 +26,12 @@ use std::thread::Threads;
 pub(crate) enum Ending {
     /// All were made, and each ended as it may.
     Made,
+    /// The same, but some were refused, as those of a dead or killed task are.
+    Killed,
     /// One ended as none may, and the others were left.
     Astray,
+    /// What one waits for didn't end for long, while some thread hadn't come to the start: it and the others were left.
+    Late,
     /// Memory was wanted.
     Memory,
 }
@@ -37,6 +41,33 @@ pub(crate) enum Ending {
 pub(crate) struct Track<'a, L: Ledger> {
     pub(crate) shared: &'a Shared<L>,
     pub(crate) chances: Chances,
+}
+
+/// What was found of the calls of all tasks.
+#[derive(Drop)]
+pub(crate) struct Found {
+    /// Some call ended as none may.
+    pub(crate) astray: bool,
+    /// Some were left.
+    pub(crate) late: bool,
+    /// The tasks of which calls were refused.
+    pub(crate) refused: Vec<Task>,
+}
+
+impl Found {
+    /// Whether all were made, each as it may end.
+    pub(crate) fn is_made(&self) -> bool
+        ensures { result ≡ not self.now.astray && not self.now.late }
+    {
+        !self.astray && !self.late
+    }
+}
+
+/// The seats of a race, and what was found of their calls.
+#[derive(Drop)]
+pub(crate) struct Ran<L: Ledger> {
+    pub(crate) seats: Vec<Seat<L>>,
+    pub(crate) found: Found,
 }
 
 /// A task's seat, its calls, and what came of them.
@@ -56,13 +87,34 @@ fn has_exit(calls: &[Op]) -> bool
 
 // Whether a call may end so, of a task that may have been killed or not, and has exited or not, where its seat had so many
 // entries before and has so many now.
-fn may_end(mortal: bool, gone: bool, reply: Reply, before: usize, after: usize) -> bool
-    ensures { result ≡ may_end mortal gone reply before after }
+fn may_end(mortal: bool, gone: bool, reply: &Reply, before: usize, after: usize) -> bool
+    ensures { result ≡ may_end mortal gone reply.now before after }
 {
     match reply {
         Reply::Ended(_) => !gone,
         Reply::Refused(Refusal::NotAlive) => (mortal || gone) && after == before,
         Reply::Refused(_) => false,
+    }
+}
+
+// What came of a call that ended as it may.
+fn met(gone: bool, reply: &Reply) -> Ending
+    ensures { result ≡ met gone reply.now }
+{
+    match reply {
+        Reply::Refused(_) if !gone => Ending::Killed,
+        _ => Ending::Made,
+    }
+}
+
+// What came of calls of which some were refused, or none.
+fn ending_of(refused: bool) -> Ending
+    ensures { result ≡ ending_of refused }
+{
+    if refused {
+        Ending::Killed
+    } else {
+        Ending::Made
     }
 }
 
@@ -104,10 +156,10 @@ fn make_call<L: Ledger, R: Wait>(
         return Ending::Memory;
     };
     let after = seat.list().len();
-    if !may_end(course.draws.is_mortal(), gone, reply, before, after) {
+    if !may_end(course.draws.is_mortal(), gone, &reply, before, after) {
         return Ending::Astray;
     }
-    Ending::Made
+    met(gone, &reply)
 }
 
 // Makes the calls, one after the other, until one ends as none may or memory is wanted. The task may have exited before.
@@ -124,19 +176,22 @@ fn make_calls<L: Ledger, R: Wait>(
         seat.old.list seat.new.list }
 {
     let mut gone = had_exited;
+    let mut refused = false;
     for op in calls {
         if !course.come(rt) {
-            return Ending::Memory;
+            return Ending::Late;
         }
         match make_call(rt, hold, course, seat, gone, *op) {
             Ending::Made => {}
+            Ending::Killed => refused = true,
             Ending::Astray => return Ending::Astray,
+            Ending::Late => return Ending::Late,
             Ending::Memory => return Ending::Memory,
         }
         course.pass(rt);
         gone |= is_exit(op);
     }
-    Ending::Made
+    ending_of(refused)
 }
 
 // Makes the calls of the racer that are in the range.
@@ -179,7 +234,7 @@ fn set_racers<L: Ledger>(
 ) -> Result<(Vec<Racer<L>>, Vec<Seat<L>>), AllocError>
     requires { All IsNew seats.items }
     ensures racers { IfOk result (λ set. All (λ d. IsSet script.now d.calls.items d.seat) set.0.items) }
-    ensures idle { IfOk result (λ set. (mortal : Bool) → All (HasMadeIn mortal script.now call_range) set.1.items) }
+    ensures idle { IfOk result (λ set. (mortal : Bool) → All (HasMadeIn mortal false script.now call_range) set.1.items) }
     ensures count { IfOk result (λ set. length set.0.items + length set.1.items ≡ length seats.items) }
 {
     let mut racers = Vec::new(alloc);
@@ -243,26 +298,26 @@ fn run_racers<L: Ledger + Send + Sync, R: Threads + Wait + Sync>(
     );
 }
 
-// The seats of the racers beside the others, and whether all calls were made.
+// The seats of the racers beside the others, and what was found of their calls.
 fn gather_seats<L: Ledger>(
+    alloc: Global,
     chances: Chances,
     script: &Script,
     call_range: CallRange,
     racers: Vec<Racer<L>>,
     idle: Vec<Seat<L>>,
-) -> Result<(bool, Vec<Seat<L>>), AllocError>
+) -> Result<Ran<L>, AllocError>
     requires ran { All (λ d. HasRun (is_mortal chances) script.now call_range d.ending d.seat) racers.items }
-    requires idle { All (HasMadeIn (is_mortal chances) script.now call_range) idle.items }
-    ensures calls { IfOk result (λ gathered.
-        MatchBool gathered.0 (All (HasMadeIn (is_mortal chances) script.now call_range) gathered.1.items)
-        (SomeStrayedIn (is_mortal chances) script.now call_range gathered.1.items)) }
-    ensures count { IfOk result (λ gathered. length gathered.1.items ≡ length racers.items + length idle.items) }
+    requires idle { All (HasMadeIn (is_mortal chances) false script.now call_range) idle.items }
+    ensures calls { IfOk result (λ ran. AreFoundIn (is_mortal chances) script.now call_range ran.found ran.seats.items) }
+    ensures count { IfOk result (λ ran. length ran.seats.items ≡ length racers.items + length idle.items) }
 {
     let _ = chances;
     let _ = script;
     let _ = call_range;
     let mut seats = idle;
-    let mut made = true;
+    let mut refused = Vec::new(alloc);
+    let (mut astray, mut late) = (false, false);
     for racer in racers {
         let Racer {
             seat,
@@ -271,12 +326,19 @@ fn gather_seats<L: Ledger>(
         } = racer;
         match ending {
             Ending::Made => {}
-            Ending::Astray => made = false,
+            Ending::Killed => refused.push(seat.task())?,
+            Ending::Astray => astray = true,
+            Ending::Late => late = true,
             Ending::Memory => return Err(AllocError),
         }
         seats.push(seat)?;
     }
-    Ok((made, seats))
+    let found = Found {
+        astray,
+        late,
+        refused,
+    };
+    Ok(Ran { seats, found })
 }
 
 // On which the ends of calls are noted, where calls of the script wait.
@@ -294,7 +356,7 @@ fn board_of(
     Ok(Some(board))
 }
 
-/// Makes the calls of a range, each task's in a thread of its own. Whether all were made, and the seats.
+/// Makes the calls of a range, each task's in a thread of its own.
 pub(crate) fn make_range<L: Ledger + Send + Sync, R: Threads + Wait + Sync>(
     rt: &R,
     alloc: Global,
@@ -302,15 +364,14 @@ pub(crate) fn make_range<L: Ledger + Send + Sync, R: Threads + Wait + Sync>(
     script: &Script,
     call_range: CallRange,
     seats: Vec<Seat<L>>,
-) -> Result<(bool, Vec<Seat<L>>), AllocError>
+) -> Result<Ran<L>, AllocError>
     requires { All IsNew seats.items }
-    ensures count { IfOk result (λ ran. length ran.1.items ≡ length seats.items) }
+    ensures count { IfOk result (λ ran. length ran.seats.items ≡ length seats.items) }
     ensures calls { IfOk result (λ ran.
-        MatchBool ran.0 (All (HasMadeIn (is_mortal track.now.chances) script.now call_range) ran.1.items)
-        (SomeStrayedIn (is_mortal track.now.chances) script.now call_range ran.1.items)) }
+        AreFoundIn (is_mortal track.now.chances) script.now call_range ran.found ran.seats.items) }
 {
     let (mut racers, idle) = set_racers(alloc, script, call_range, seats)?;
     let board = board_of(alloc, script, call_range)?;
     run_racers(rt, track, board, script, call_range, &mut racers);
-    gather_seats(track.chances, script, call_range, racers, idle)
+    gather_seats(alloc, track.chances, script, call_range, racers, idle)
 }

@@ -1,15 +1,15 @@
 //! One race, from the opening of its pool to its end.
-ghost use Rattle.std.specs.Prelude.{◌≡◌, ◌≤◌, All, IfOk, IfSome, MatchBool, length};
+ghost use Rattle.std.specs.Prelude.{◌≡◌, ◌≤◌, IfOk, IfSome, length};
 ghost use Rattle.hp_race.specs.Calls.{is_mortal};
-ghost use Rattle.hp_race.specs.Racers.{HasMade, SomeStrayed};
+ghost use Rattle.hp_race.specs.Racers.{AreFound};
 ghost use Rattle.hp_race.specs.Races.{IsKept, IsTold};
 
 use crate::call_range::CallRange;
 use crate::chances::Chances;
 use crate::line::Race;
-use crate::racer::{Track, make_range};
+use crate::racer::{Ran, Track, make_range};
 use crate::telling::{keep, tell};
-use hp_shared::{Seat, Shared};
+use hp_shared::Shared;
 use hp_text::{MOST_EVENTS, Script, Trace};
 use std::alloc::{AllocError, Global};
 use std::marker::Brand;
@@ -58,8 +58,8 @@ fn race_by<L: Ledger + Send + Sync, R: Threads + Wait + Sync>(
     requires parts { (blank.parts ≡ L.parts) × (blank.parts ≡ script.now.config.tasks) }
     ensures { IfOk result (λ race. IsTold (is_mortal chances) script.now race) }
 {
-    let (shared, made, seats) = run_by::<L, _>(rt, alloc, blank, script, chances)?;
-    tell(rt, alloc, script, chances, shared, made, seats)
+    let (shared, ran) = run_by::<L, _>(rt, alloc, blank, script, chances)?;
+    tell(rt, alloc, script, chances, shared, ran)
 }
 
 fn trace_by<L: Ledger + Send + Sync, R: Threads + Wait + Sync>(
@@ -74,24 +74,23 @@ fn trace_by<L: Ledger + Send + Sync, R: Threads + Wait + Sync>(
     ensures race { IfOk result (λ kept. IsKept (is_mortal chances) script.now kept) }
     ensures few { IfOk result (λ kept. IfSome kept (λ trace. length trace.events.items ≤ MOST_EVENTS)) }
 {
-    let (shared, made, seats) = run_by::<L, _>(rt, alloc, blank, script, chances)?;
-    keep(alloc, script, chances, shared, made, seats)
+    let (shared, ran) = run_by::<L, _>(rt, alloc, blank, script, chances)?;
+    keep(alloc, script, chances, shared, ran)
 }
 
-// Opens a pool and makes all calls. Hands out the pool, whether all were made, and the seats.
+// Opens a pool and makes all calls. Hands out the pool, and what came of the calls.
 fn run_by<L: Ledger + Send + Sync, R: Threads + Wait + Sync>(
     rt: &R,
     alloc: Global,
     blank: Blank,
     script: &Script,
     chances: Chances,
-) -> Result<(Shared<L>, bool, Vec<Seat<L>>), AllocError>
+) -> Result<(Shared<L>, Ran<L>), AllocError>
     requires name { blank.name ≡ L.name }
     requires parts { (blank.parts ≡ L.parts) × (blank.parts ≡ script.now.config.tasks) }
     ensures config { IfOk result (λ ran. ran.0.config ≡ script.now.config) }
-    ensures count { IfOk result (λ ran. length ran.2.items ≡ script.now.config.tasks) }
-    ensures calls { IfOk result (λ ran. MatchBool ran.1 (All (HasMade (is_mortal chances) script.now) ran.2.items)
-        (SomeStrayed (is_mortal chances) script.now ran.2.items)) }
+    ensures count { IfOk result (λ ran. length ran.1.seats.items ≡ script.now.config.tasks) }
+    ensures calls { IfOk result (λ ran. AreFound (is_mortal chances) script.now ran.1.found ran.1.seats.items) }
 {
     let (shared, seats) = Shared::<L>::new(alloc, blank, script.config)?;
     // No task has more calls than the script.
@@ -103,6 +102,6 @@ fn run_by<L: Ledger + Send + Sync, R: Threads + Wait + Sync>(
         shared: &shared,
         chances,
     };
-    let (made, seats) = make_range(rt, alloc, &track, script, all, seats)?;
-    Ok((shared, made, seats))
+    let ran = make_range(rt, alloc, &track, script, all, seats)?;
+    Ok((shared, ran))
 }

@@ -1,31 +1,65 @@
 //! What is told of a pool at the end of a race.
-ghost use Rattle.std.specs.Prelude.{◌≡◌, ◌≢◌, ◌≤◌, IfOk, IfSome, MatchBool, All, None, length, take};
+ghost use Rattle.std.specs.Prelude.{◌≡◌, ◌≢◌, ◌≤◌, IfOk, IfSome, MatchBool, None, length, take};
 ghost use Rattle.hp_shared.specs.Journal.{events_of};
 ghost use Rattle.hp_race.specs.Calls.{is_mortal};
-ghost use Rattle.hp_race.specs.Racers.{HasMade, SomeStrayed};
+ghost use Rattle.hp_race.specs.Racers.{AreFound, are_gone_in, is_gone_in};
 ghost use Rattle.hp_race.specs.Parts.{IsAgain, IsVerdictOnParts};
-ghost use Rattle.hp_race.specs.Races.{Counts, IsKept, IsKeptOf, IsTold, IsToldOfRefused, IsVerdictOn};
+ghost use Rattle.hp_race.specs.Races.{Counts, IsKept, IsKeptOf, IsOnFound, IsTold, IsToldOfRefused};
 
 use crate::again::Again;
 use crate::chances::Chances;
+use crate::keeping::keeps_waits;
 use crate::line::{Race, Verdict};
-use hp_base::Event;
-use hp_core::Tally;
-use hp_shared::{CloseFault, Closed, Entry, Seat, Shared};
+use crate::racer::{Found, Ran};
+use hp_base::{Event, Task};
+use hp_core::{Core, Life, Tally};
+use hp_shared::{CloseFault, Closed, Entry, Shared};
 use hp_text::{MOST_EVENTS, Script, Trace};
 use std::alloc::{AllocError, Global};
 use std::sync::Wait;
 use std::sync::ledger::Ledger;
 
-// The verdict on a pool that was closed: with all its entries it is the one that was opened, since it has its sizes.
-fn verdict(made: bool, closed: &Closed) -> Verdict
-    ensures { IsVerdictOn made closed.now.last.first result }
+// Whether the core has the task, and it is dead or killed.
+fn is_gone(core: &Core, task: Task) -> bool
+    ensures { result ≡ is_gone_in core.now task }
 {
-    if made && closed.last.first == 0 {
+    let number = task.number();
+    if number == 0 || number > core.config().tasks {
+        return false;
+    }
+    core.life(task) != Life::Alive
+}
+
+/// Whether so it is of all these tasks.
+pub(crate) fn are_gone(core: &Core, tasks: &[Task]) -> bool
+    ensures { result ≡ are_gone_in core.now tasks.now }
+{
+    tasks.iter().all(|task| is_gone(core, *task))
+}
+
+// The verdict on a pool that was closed: with all its entries it is the one that was opened, since it has its sizes.
+fn verdict(
+    alloc: Global,
+    script: &Script,
+    found: &Found,
+    closed: &Closed,
+) -> Result<Verdict, AllocError>
+    ensures { IfOk result
+        (IsOnFound script.now found.now closed.now.core closed.now.last.first closed.now.last.entries.items) }
+{
+    if found.astray {
+        return Ok(Verdict::Astray);
+    }
+    if found.late {
+        return Ok(Verdict::Late);
+    }
+    let gone = are_gone(&closed.core, found.refused.as_slice());
+    let waited = keeps_waits(alloc, script, closed.last.entries.as_slice())?;
+    Ok(if gone && waited && closed.last.first == 0 {
         Verdict::Closed
     } else {
         Verdict::Astray
-    }
+    })
 }
 
 // A race of which this was found, with the counts of what was closed.
@@ -42,11 +76,17 @@ fn race_of(found: Verdict, closed: &Closed) -> Race
 }
 
 // What is told of it.
-fn told_of_closed(made: bool, closed: &Closed) -> Race
-    ensures verdict { IsVerdictOn made closed.now.last.first result.verdict }
-    ensures counts { Counts result closed.now.entries closed.now.core }
+fn told_of_closed(
+    alloc: Global,
+    script: &Script,
+    found: &Found,
+    closed: &Closed,
+) -> Result<Race, AllocError>
+    ensures verdict { IfOk result (λ race.
+        IsOnFound script.now found.now closed.now.core closed.now.last.first closed.now.last.entries.items race.verdict) }
+    ensures counts { IfOk result (λ race. Counts race closed.now.entries closed.now.core) }
 {
-    race_of(verdict(made, closed), closed)
+    Ok(race_of(verdict(alloc, script, found, closed)?, closed))
 }
 
 // Whether what was closed is what happened again, with nothing in its journal.
@@ -99,18 +139,17 @@ pub(crate) fn tell<L: Ledger, R: Wait>(
     script: &Script,
     chances: Chances,
     shared: Shared<L>,
-    made: bool,
-    seats: Vec<Seat<L>>,
+    ran: Ran<L>,
 ) -> Result<Race, AllocError>
     requires config { shared.config ≡ script.now.config }
-    requires count { length seats.items ≡ script.now.config.tasks }
-    requires calls { MatchBool made (All (HasMade (is_mortal chances) script.now) seats.items)
-        (SomeStrayed (is_mortal chances) script.now seats.items) }
+    requires count { length ran.seats.items ≡ script.now.config.tasks }
+    requires calls { AreFound (is_mortal chances) script.now ran.found ran.seats.items }
     ensures { IfOk result (λ race. IsTold (is_mortal chances) script.now race) }
 {
+    let Ran { seats, found } = ran;
     let tally = shared.tally(rt);
     match shared.close(alloc, seats) {
-        Ok(closed) => Ok(told_of_closed(made, &closed)),
+        Ok(closed) => told_of_closed(alloc, script, &found, &closed),
         Err(refused) => told_of_refused(refused.fault, tally),
     }
 }
@@ -139,18 +178,17 @@ pub(crate) fn keep<L: Ledger>(
     script: &Script,
     chances: Chances,
     shared: Shared<L>,
-    made: bool,
-    seats: Vec<Seat<L>>,
+    ran: Ran<L>,
 ) -> Result<Option<Trace>, AllocError>
     requires config { shared.config ≡ script.now.config }
-    requires count { length seats.items ≡ script.now.config.tasks }
-    requires calls { MatchBool made (All (HasMade (is_mortal chances) script.now) seats.items)
-        (SomeStrayed (is_mortal chances) script.now seats.items) }
+    requires count { length ran.seats.items ≡ script.now.config.tasks }
+    requires calls { AreFound (is_mortal chances) script.now ran.found ran.seats.items }
     ensures race { IfOk result (λ kept. IsKept (is_mortal chances) script.now kept) }
     ensures few { IfOk result (λ kept. IfSome kept (λ trace. length trace.events.items ≤ MOST_EVENTS)) }
 {
+    let Ran { seats, found } = ran;
     match shared.close(alloc, seats) {
-        Ok(closed) => kept_of(alloc, script, made, &closed),
+        Ok(closed) => kept_of(alloc, script, &found, &closed),
         Err(refused) => nothing_kept(refused.fault),
     }
 }
@@ -169,12 +207,13 @@ fn nothing_kept(fault: CloseFault) -> Result<Option<Trace>, AllocError>
 fn kept_of(
     alloc: Global,
     script: &Script,
-    made: bool,
+    found: &Found,
     closed: &Closed,
 ) -> Result<Option<Trace>, AllocError>
-    ensures { IfOk result (λ kept. IsKeptOf script.now made closed.now.last.first closed.now.last.entries.items kept) }
+    ensures { IfOk result
+        (IsKeptOf script.now found.now closed.now.core closed.now.last.first closed.now.last.entries.items) }
 {
-    match verdict(made, closed) {
+    match verdict(alloc, script, found, closed)? {
         Verdict::Closed => {
             let events = events_of(alloc, front(closed.last.entries.as_slice()))?;
             Ok(Some(Trace {
@@ -182,6 +221,6 @@ fn kept_of(
                 events,
             }))
         }
-        Verdict::Disagree(_) | Verdict::Astray => Ok(None),
+        Verdict::Disagree(_) | Verdict::Astray | Verdict::Late => Ok(None),
     }
 }

@@ -1,7 +1,7 @@
 //! Calls that wait in a race until other tasks have ended theirs.
 //!
-//! Each call waits for what it waits for in a schedule. What is proved of a race holds whoever waits for whom, since a thread that waits
-//! makes no hold. That threads wait is tested of races that are printed as traces.
+//! Each call waits for what it waits for in a schedule. A thread that waits makes no hold. How it waits is proved of no thread: that calls
+//! waited is seen of the journal, when the race is closed (`keeping`).
 ghost use Rattle.std.specs.Prelude.{◌≡◌, IfOk};
 ghost use Rattle.hp_race.specs.Waiting.{AreNeeds, is_met, needs_at, noted};
 
@@ -42,6 +42,19 @@ fn is_met(ended: &[usize], need: Need) -> bool
     }
 }
 
+/// What the task's call of this number waits for.
+pub(crate) fn needs_at(needs: &[Vec<Vec<Need>>], task: Task, number: usize) -> &[Need]
+    ensures { result.now ≡ needs_at needs.now task number }
+{
+    match needs.get((task.number() as usize).saturating_sub(1)) {
+        Some(calls) => match calls.get(number) {
+            Some(needs) => needs.as_slice(),
+            None => &[],
+        },
+        None => &[],
+    }
+}
+
 impl Board {
     /// Before the calls from that number on. A task that has fewer calls has ended all.
     pub(crate) fn new(alloc: Global, script: &Script, from: usize) -> Result<Board, AllocError>
@@ -58,13 +71,7 @@ impl Board {
     fn needs(&self, task: Task, number: usize) -> &[Need]
         ensures { result.now ≡ needs_at self.now.needs.items task number }
     {
-        match self.needs.get((task.number() as usize).saturating_sub(1)) {
-            Some(calls) => match calls.get(number) {
-                Some(needs) => needs.as_slice(),
-                None => &[],
-            },
-            None => &[],
-        }
+        needs_at(self.needs.as_slice(), task, number)
     }
 
     fn is_met<R: Wait>(&self, rt: &R, need: Need) -> bool {

@@ -21,4 +21,4 @@ returns-clause-call g c =
     c.is_mortal.ensures c.strike.ensures.never
     (struck c.strike.result (MayKill c.args.course.now.config.tasks c.args.seat.now.list c.strike.new.seat.list)
     (sym c.is_err.ensures.value ∙ c.if-is_err.false) c.strike.ensures.kill)
-    c.in-Ok.ensures.ok c.may_end.ensures c.if-not-may_end.false
+    c.in-Ok.ensures.ok c.may_end.ensures c.if-not-may_end.false c.met.result c.met.ensures

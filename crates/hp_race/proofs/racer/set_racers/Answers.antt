@@ -1,4 +1,5 @@
 use Rattle.std.proofs.Common.{◌∷◌, [], ap, ◌∙◌, length, length-append, arith}
+use Rattle.std.specs.Prelude.{false}
 use Rattle.hp_text.specs.Scripts.{calls_of}
 use Rattle.hp_race.specs.Racers.{HasMadeIn, IsNew, IsSet}
 use Rattle.hp_race.proofs.Making.{idle_made, one_longer, one_more, taken_apart}
@@ -16,7 +17,7 @@ loop-seat-preserved-then-len-call_range g c =
       apart.1,
       inv.3,
       λ mortal.
-          one_more (HasMadeIn mortal c.args.script.now c.args.call_range) _ _ c.in-Some.seat items (inv.4 mortal)
+          one_more (HasMadeIn mortal false c.args.script.now c.args.call_range) _ _ c.in-Some.seat items (inv.4 mortal)
           (idle_made mortal c.args.script.now c.args.call_range c.in-Some.seat c.in_ok-calls.calls.items
           (c.in_ok-calls.ensures ∙ ap (calls_of c.args.script.now.calls.items) c.task.ensures)
           (omega (arith, c.if-len-call_range.true, c.in_ok-calls.calls.ok)) apart.0),

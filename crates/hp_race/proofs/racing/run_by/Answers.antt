@@ -8,5 +8,6 @@ make_range-requires-after_bounds g c κs within = all_new _ _ c.in_ok-shared.ens
 
 pub returns-clause-calls : goal.returns-clause-calls
 returns-clause-calls g c =
-    whole (is_mortal c.args.chances) c.args.script.now c.len.result c.in_ok-made.made c.in_ok-made.seats.items
-    (omega (arith, c.len.ensures, c.args.script.now.calls.ok)) c.in_ok-made.ensures.calls
+    let found = c.in_ok-ran.ran.found in
+    whole (is_mortal c.args.chances) c.args.script.now c.len.result found.astray found.late found.refused.items
+    c.in_ok-ran.ran.seats.items (omega (arith, c.len.ensures, c.args.script.now.calls.ok)) c.in_ok-ran.ensures.calls
