@@ -68,6 +68,22 @@ const series = seriesOf(values);
 const isRight = (from, to) => rangeOf(series, from, to).join() === [Math.min(...values.slice(from, to)), Math.max(...values.slice(from, to))].join();
 expect("the least and the greatest", [[0, 1000], [63, 64], [60, 200], [64, 128], [999, 1000]].every(([from, to]) => isRight(from, to)), true);
 
+// task 1 exits, and task 2 waits for it up to the end of the data; task 3 has a denied step; numbers are as long as a double has no room for
+const LAST = [
+  '{"pool":{"frames":4,"files":1,"slots":4,"tasks":3}}',
+  `{"line":2,"task":1,"event":"begin","op":"exit","numbers":[],"outcome":"begun","at":"exit start","holds":{},"wants":{},"owes":0,${COUNTS}}`,
+  `{"line":3,"task":3,"event":"begin","op":"store","numbers":[0,9007199254740993],"outcome":"begun","at":"look","holds":{},"wants":{},"owes":0,${COUNTS}}`,
+  `{"line":4,"task":3,"event":"deny","outcome":"moved","phase":"want","at":"want","holds":{},"wants":{},"owes":0,${COUNTS},"waits":[{"task":2,"for":1,"lock":0}]}`,
+  `{"line":5,"task":1,"event":"step","outcome":"ended","answer":"done",${COUNTS}}`,
+  `{"line":6,"task":3,"event":"step","outcome":"moved","phase":"take","at":"take","holds":{},"wants":{},"owes":0,${COUNTS}}`,
+];
+const last = readRun(LAST.join("\n"));
+const [exited, waiting, denied] = last.lanes;
+expect("a number of 16 digits", eventWords(eventAt(last, 1)), "begin 3 store 0 9007199254740993");
+expect("a denied step", [denied.marks.denied, denied.marks.blocked], [[2], []]);
+expect("a task is dead from its exit's end on", [2, 3, 4].map((at) => lifeAt(exited, at)), ["alive", "dead", "dead"]);
+expect("a wait up to the end", [1, 2, 4].map((at) => waitAt(last, waiting, at)?.holder ?? null), [null, 1, 1]);
+
 const cut = readRun(LINES.slice(0, 5).join("\n").slice(0, -30));
 expect("data that are cut", [cut.count, cut.end], [3, null]);
 expect("data that are none", [readRun(""), readRun("{\n"), readRun("[]\n")], [null, null, null]);
