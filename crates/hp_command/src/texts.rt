@@ -110,6 +110,7 @@ each task's history is compared with the pool's:
   closed       all calls were made, and the tasks' histories make up the pool's
   disagree P   the histories differ from the pool's at position P
   astray       a call ended in a way that no call may
+  late         a call waited long for one of a task whose thread hadn't started
 An entry is a hold of the pool's lock that changed it. A trace has the events of all entries, in their order, a million
 at most; if the race isn't closed, nothing is printed.
 With --cut N the journal is compared and emptied each time every task has made N calls. The removed events are run

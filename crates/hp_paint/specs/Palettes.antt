@@ -15,7 +15,7 @@ words Outcomes Yellow = codes "blocked" ∷ codes "waits" ∷ []
 words Runs Red = codes "limit" ∷ codes "stuck" ∷ codes "shape" ∷ codes "agree" ∷ codes "place" ∷ codes "size" ∷ codes "count"
     ∷ codes "used" ∷ []
 words Runs Yellow = []
-words Races Red = codes "disagree" ∷ codes "astray" ∷ []
+words Races Red = codes "disagree" ∷ codes "astray" ∷ codes "late" ∷ []
 words Races Yellow = []
 words Work Red = codes "bad" ∷ []
 words Work Yellow = []

@@ -65,7 +65,7 @@ fn words(palette: Palette, colour: Colour) -> &'static [&'static str]
         (Palette::Runs, Colour::Red) => &[
             "limit", "stuck", "shape", "agree", "place", "size", "count", "used",
         ],
-        (Palette::Races, Colour::Red) => &["disagree", "astray"],
+        (Palette::Races, Colour::Red) => &["disagree", "astray", "late"],
         (Palette::Work, Colour::Red) => &["bad"],
         (Palette::Runs | Palette::Races | Palette::Work, Colour::Yellow) => &[],
     }

@@ -7,6 +7,7 @@ fn verdicts_are_spelled(rt: HostRuntime) -> Result<(), Fail> {
     for (verdict, text) in [
         (Verdict::Disagree(7), "disagree 7 entries 7 free 3 resv 1"),
         (Verdict::Astray, "astray entries 7 free 3 resv 1"),
+        (Verdict::Late, "late entries 7 free 3 resv 1"),
         (Verdict::Closed, "closed entries 7 free 3 resv 1"),
     ] {
         let race = Race {
