@@ -1,1 +1,2 @@
 mod Reporting
+mod Drafted

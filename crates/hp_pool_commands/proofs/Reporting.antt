@@ -58,14 +58,14 @@ line_cut start before mid after line written answer flushed same kept wrote fail
 
 -- the text that is laid out is that of the trace of the workload that was run
 pub traces_work : {V : Type 0} (items : V → List ℕ) (words : WorkWords) (workload : Workload) (report : Report) (trace : Trace)
-    (result : Result (Report × V) WorkFault) → name_of workload ≡ string_bytes words.name → IsTraced report trace
+    (result : Result (Report × V) WorkFault) → name_of workload ≡ string_bytes words.name → IsTraced workload report trace
     → IfOk result (λ laid. laid.0 ≡ report) → IfOk result (λ laid. items laid.1 ≡ trace_text (sizes trace.config) trace.events.items)
     → IfOk result (λ laid. TracesWork words laid.0 (items laid.1))
 traces_work items words workload report trace (Ok laid) named traced same text = record {
   workload = workload;
   named = named;
   trace = trace;
-  traced = subst (λ (r : Report). IsTraced r trace) (sym same) traced;
+  traced = subst (λ (r : Report). IsTraced workload r trace) (sym same) traced;
   is = text;
 }
 traces_work items words workload report trace (Err fault) named traced same text = tt

@@ -4,13 +4,13 @@ use Rattle.std.specs.Fmt.{decimal}
 use Rattle.std.specs.Io.KnownBytes.{Appends, Keeps}
 use Rattle.hp_base.specs.Text.{sizes}
 use Rattle.hp_base.specs.declared.config.Config.{Config}
-use Rattle.hp_client.specs.Carrying.{RunOverCore, RunOverPool, StoppedOverCore, StoppedOverPool}
-use Rattle.hp_client.specs.Tables.{name_of}
+use Rattle.hp_client.specs.Carrying.{IsNewCore, RunOverCore, RunOverPool, StoppedOverCore, StoppedOverPool, core_rounds}
+use Rattle.hp_client.specs.Heard.{DriverState}
+use Rattle.hp_client.specs.Tables.{IsReport, name_of, sizes_of, table_of}
 use Rattle.hp_client.specs.declared.fault.ClientFault.{ClientFault}
 use Rattle.hp_client.specs.declared.fault.ClientFault.TheVariants.{Memory}
 use Rattle.hp_client.specs.declared.table.Workload.{Workload}
 use Rattle.hp_client.specs.declared.work.Report.{Report}
-use Rattle.hp_core.specs.State.{CoreState}
 use Rattle.hp_format.specs.Drafts.{IsLed}
 use Rattle.hp_shared.specs.States.{tally_of}
 use Rattle.hp_text.specs.Traces.{trace_text}
@@ -91,20 +91,25 @@ Unreported words (Client fault) =
 Unreported words (Stream fault) = ⊥
 Unreported words Bad = ⊥
 
--- what happened to a new pool, which this trace has, led to one with the tally of the report
-pub record IsTraced (report : Report) (trace : Trace) : Type 0 where
+-- The workload's lines ran over a new pool of its sizes, this is what came of it, and the trace's events are all that happened to the
+-- pool, and led to the tally of the report
+pub record IsTraced (workload : Workload) (report : Report) (trace : Trace) : Type 0 where
+  pub old : DriverState
+  pub new : DriverState
+  pub is_new : IsNewCore workload old
+  pub is : IsReport core_rounds (table_of workload).lines (table_of workload).tally old new report
+  pub tally : report.tally ≡ tally_of new.core
+  pub sizes_are : sizes trace.config ≡ sizes_of workload
   pub config : Config
-  pub sizes_are : sizes config ≡ sizes trace.config
-  pub core : CoreState
-  pub led : IsLed config core trace.events.items
-  pub tally : report.tally ≡ tally_of core
+  pub same : sizes config ≡ sizes trace.config
+  pub led : IsLed config new.core trace.events.items
 
 -- the words name a workload, it was run, and this is the text of such a trace
 pub record TracesWork (words : WorkWords) (report : Report) (text : List ℕ) : Type 0 where
   pub workload : Workload
   pub named : name_of workload ≡ string_bytes words.name
   pub trace : Trace
-  pub traced : IsTraced report trace
+  pub traced : IsTraced workload report trace
   pub is : text ≡ trace_text (sizes trace.config) trace.events.items
 
 -- no workload has the name, or the one that has it was stopped
