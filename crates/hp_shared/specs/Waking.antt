@@ -2,6 +2,7 @@
 use Rattle.std.specs.Prelude.{◌≡◌, ◌≢◌, ◌+◌, ◌<◌, ◌≤◌, ◌⊎◌, ℕ, List, Option, None, Some, slice_index_or}
 use Rattle.hp_core.specs.State.{CoreState}
 use Rattle.hp_core.specs.Waiting.{WaitsFor}
+use Rattle.hp_shared.specs.Journal.{IsCameTo}
 use Rattle.hp_shared.specs.States.{PoolState}
 use Rattle.hp_shared.specs.declared.waiting_room.Stance.{Stance}
 use Rattle.hp_shared.specs.declared.waiting_room.Stance.TheVariants.{Up, Asleep, Called}
@@ -42,6 +43,15 @@ HandsOut called old new = (place : ℕ) → stance_in new place ≡ Called → (
 -- each task that sleeps is held up, or somebody was called who has yet to make a hold
 abbrev pub AreWatched : CoreState → List Stance → Type 0
 AreWatched core stances = NoneCalled stances → AreHeldUp core stances
+
+-- the task doesn't sleep in this room
+abbrev pub IsAwakeIn : (task : ℕ) → RoomState → Type 0
+IsAwakeIn task room = (place : ℕ) → place + 1 ≡ task → stance_in room.stances place ≢ Asleep
+
+-- in some room, as it was while its lock was held, the task doesn't sleep
+abbrev pub WasAwake : (task : ℕ) → Type 0
+WasAwake task =
+    (room : RoomState) × IsCameTo room.pool.core × AreWatched room.pool.core room.stances × IsAwakeIn task room
 
 -- each task but this one that waited for a holder waits for it
 abbrev pub OthersWaitOn : (own : ℕ) → CoreState → CoreState → Type 0

@@ -60,9 +60,7 @@ impl<'a, L: Ledger> Hold<L> for Halting<'a, L> {
     fn pause<R: Wait>(&self, rt: &R, seat: &Seat<L>) {
         let task = seat.task();
         let halted = &self.halted;
-        let Some(waking) = self.shared.waking(task) else {
-            return;
-        };
+        let waking = self.shared.waking(task);
         let mut room = self.shared.room.lock(rt);
         room.lie_down(task);
         let mut room = waking.wait_while(

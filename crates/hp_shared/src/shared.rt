@@ -11,6 +11,7 @@ ghost use Rattle.hp_shared.specs.Closing.{ClosesPoolOf, ClosesWith, RefusesClose
 ghost use Rattle.hp_shared.specs.Cutting.{emptied, MayRefuseCut};
 ghost use Rattle.hp_shared.specs.Seats.{new_seat, has_seat as seated, AllSeated, LeastMissing, lists_of};
 ghost use Rattle.hp_shared.specs.States.{seat_with, tally_of};
+ghost use Rattle.hp_shared.specs.Waking.{IsAwakeIn, WasAwake};
 
 use crate::closing::KeptOpen;
 use crate::cutting::Part;
@@ -33,6 +34,8 @@ pub struct Shared<L: Ledger> {
     pub(crate) room: Mutex<WaitingRoom<L>>,
     // one for each task, by which it is called; that of task 1 comes first
     pub(crate) wakings: Vec<Condvar>,
+    // for a task that the pool doesn't have, which nobody holds up
+    nobody: Condvar,
 }
 
 /// Why a pool wasn't closed, with the pool and the seats. After `Disagree` and `OtherSizes` they aren't handed back.
@@ -57,7 +60,8 @@ pub trait Hold<L: Ledger> {
         ensures seat { IfOk result (λ outcome. (position : ℕ) × (seat.new ≡ seat_with seat.old position event outcome)) }
         ensures err { IfErr result (λ fault. (fault ≡ CallFault.Memory false) × (seat.new ≡ seat.old)) };
 
-    /// Waits while another task's call holds up the next step of the seat's task. It makes no step.
+    /// Waits while another task's call holds up the next step of the seat's task. It makes no step. The task doesn't sleep when it
+    /// returns.
     fn pause<R: Wait>(&self, rt: &R, seat: &Seat<L>);
 }
 
@@ -76,14 +80,21 @@ impl<L: Ledger> Hold<L> for Shared<L> {
         }
     }
 
-    fn pause<R: Wait>(&self, rt: &R, seat: &Seat<L>) {
+    fn pause<R: Wait>(&self, rt: &R, seat: &Seat<L>)
+        ensures { WasAwake seat.now.task }
+    {
         let task = seat.task();
-        let Some(waking) = self.waking(task) else {
-            return;
-        };
         let mut room = self.room.lock(rt);
         room.lie_down(task);
-        waking.wait_while(rt, room, |room| room.is_asleep(task));
+        let room = self.waking(task).wait_while(
+            rt,
+            room,
+            |room: &mut WaitingRoom<L>|
+                ensures { result ≡ false → IsAwakeIn task room.new }
+            { room.is_asleep(task) },
+        );
+        room.always();
+        room.pool.always();
     }
 }
 
@@ -131,18 +142,25 @@ impl<L: Ledger> Shared<L> {
             config,
             room: Mutex::new(WaitingRoom::new(pool)),
             wakings,
+            nobody: Condvar::new(),
         }
     }
 
     // By what the task is called.
-    pub(crate) fn waking(&self, task: Task) -> Option<&Condvar> {
-        self.wakings.get(place_of(task)?)
+    pub(crate) fn waking(&self, task: Task) -> &Condvar {
+        let Some(place) = place_of(task) else {
+            return &self.nobody;
+        };
+        match self.wakings.get(place) {
+            Some(waking) => waking,
+            None => &self.nobody,
+        }
     }
 
     // Wakes the task that was called, if one was.
     pub(crate) fn wake(&self, called: Option<Task>) {
-        if let Some(waking) = called.and_then(|task| self.waking(task)) {
-            waking.notify_all();
+        if let Some(task) = called {
+            self.waking(task).notify_all();
         }
     }
 
@@ -225,6 +243,7 @@ impl<L: Ledger> Shared<L> {
             config,
             room,
             wakings,
+            nobody: _,
         } = self;
         let pool = room.into_inner().into_pool();
         if !same_sizes(&pool.core.config(), &config) {

@@ -26,8 +26,8 @@ returns-in-Ok-clause-run g c =
     let same : config_of closed.core ≡ sizes c.args.self.config = search rules in
     closes_pool_of c.args.self.config c.args.seats.items closed.core closed.last.first closed.last.entries.items same c.in-Ok.ensures.run
 
-pub returns-in-Err-clause-refused : goal.returns-in-Err-clause-refused
-returns-in-Err-clause-refused g c =
+pub returns-clause-refused : goal.returns-clause-refused
+returns-clause-refused g c =
     rw c.reopened.ensures.fault
     (refuses c.into_pool-pool.result c.args.self.config c.args.seats.items c.in-Err.kept.fault
     (rw c.as_slice.ensures.value at c.in_default.ensures) c.in-Err.ensures.refused)
