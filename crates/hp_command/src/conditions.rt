@@ -99,6 +99,11 @@ fn condition_of(kind: Kind, text: &str, choice: u32) -> Option<Condition> {
     })
 }
 
+// The number of the next value's alternatives: no two of those that are given have one.
+fn next_choice(conditions: &[Condition]) -> u32 {
+    u32::try_from(conditions.len()).unwrap_or(u32::MAX)
+}
+
 // Adds the alternatives of one value of an option.
 fn push_choice(
     alloc: Global,
@@ -116,12 +121,16 @@ fn push_choice(
         None, None, None,
     );
     let _names: (Option<CallWord>, Option<AnswerWord>, Option<LinuxAnswer>) = (None, None, None);
-    let choice = conditions.len() as u32;
+    let choice = next_choice(conditions.as_slice());
     let mut left = Some(text);
-    while let Some(text_left) = left {
-        let (one, rest) = match text_left.split_once('|') {
+    // (a text has one alternative more than it has bars, at most)
+    for _ in 0..=text.len() {
+        let Some(now) = left else {
+            return Ok(());
+        };
+        let (one, rest) = match now.split_once('|') {
             Some((one, rest)) => (one, Some(rest)),
-            None => (text_left, None),
+            None => (now, None),
         };
         match condition_of(kind, one, choice) {
             Some(condition) => conditions.push(condition)?,
@@ -188,7 +197,7 @@ pub(crate) fn read_conditions(
         push_conditions(alloc, given, row, kind, &mut conditions)?;
     }
     if is_at_rest(given) {
-        conditions.push(at_rest(conditions.len() as u32))?;
+        conditions.push(at_rest(next_choice(conditions.as_slice())))?;
     }
     if conditions.is_empty() {
         return Err(complaint(
