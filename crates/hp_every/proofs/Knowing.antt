@@ -1,6 +1,6 @@
 -- What watches know of one schedule they know of another that stands in the same place.
-use Rattle.std.proofs.Common.{◌≡◌, ℕ, zero, suc, ◌+◌, ◌<◌, refl, ap, sym, ◌∙◌, subst, inl, inr, arith, List, [], ◌∷◌, length}
-use Rattle.std.specs.Prelude.{◌&&◌, Bool, true, false, Option, None, Some, IfSome, MatchBool, is_some, map, slice_index_or, if◌then◌else◌}
+use Rattle.std.proofs.Common.{◌≡◌, ℕ, ◌+◌, ◌<◌, refl, ap, sym, ◌∙◌, subst, inl, inr, arith, List, [], ◌∷◌, length}
+use Rattle.std.specs.Prelude.{◌&&◌, Bool, false, Option, None, Some, IfSome, is_some, map, slice_index_or, if◌then◌else◌}
 use Rattle.std.proofs.lemmas.List.{get_or-map, length-map}
 use Rattle.std.proofs.Math.Path.{fun_ext}
 use Rattle.hp_base.specs.Indices.{count_below}
@@ -15,7 +15,6 @@ use Rattle.hp_core.specs.Readers as readers
 use Rattle.hp_core.specs.Runs.{Row}
 use Rattle.hp_core.specs.Waiting.{WaitsFor}
 use Rattle.hp_watch.specs.Moments.{Moment, Once, events_of, last_of}
-use Rattle.hp_explore.specs.Schedule.{Plan}
 use Rattle.hp_watch.specs.Calls.{AreCalls, asked_word, calls_begun, is_begin, is_begun, last_call}
 use Rattle.hp_watch.specs.declared.call_word.CallWord.{CallWord}
 use Rattle.hp_watch.specs.declared.calls.TaskCalls.{TaskCalls}

@@ -15,7 +15,7 @@ use Rattle.hp_hunt.specs.Conditions.{Finds, HasCount, IsEnd, IsMetAt, IsSomeBloc
 use Rattle.hp_hunt.specs.declared.condition.Condition.{Condition}
 use Rattle.hp_hunt.specs.declared.condition.Sought.{Sought}
 use Rattle.hp_hunt.specs.declared.condition.Sought.TheVariants as sought
-use Rattle.hp_every.specs.Schedules.{IsShortest, NoScheduleMeets, ScheduleMeets, plan_for}
+use Rattle.hp_every.specs.Schedules.{IsShortest, NoScheduleMeets, ScheduleMeets}
 use Rattle.hp_every.proofs.Runs.{event_count, wanted_too}
 use Rattle.hp_every.specs.Scheduled.{IsScheduled, asked, told}
 

@@ -1,5 +1,5 @@
 -- A file that isn't there has nothing.
-use Rattle.std.proofs.Common.{◌≡◌, ℕ, ◌<◌, Bool, true, false, refl, sym, subst, ap}
+use Rattle.std.proofs.Common.{◌≡◌, ℕ, ◌<◌, Bool, true, false, refl, sym, subst}
 use Rattle.std.specs.Prelude.{Option, None, Some, is_some}
 use Rattle.hp_base.proofs.Counting.{count_below_none}
 use Rattle.hp_base.specs.declared.limits.TheConstants.{LIMIT}

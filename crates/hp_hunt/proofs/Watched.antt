@@ -2,7 +2,7 @@
 use Rattle.std.proofs.Common.{◌≡◌, ◌≢◌, ℕ, ◌+◌, ◌<◌, ◌≤◌, zero, suc, List, [], ◌∷◌, ◌++◌, length, refl, sym, ap, subst, ◌∙◌, arith, inl, inr}
 use Rattle.std.specs.Prelude.{◌↔◌, ◌||◌, Bool, true, false, None, Some, IsTrue, MatchBool}
 use Rattle.std.specs.Prelude.{All, Contains, map, slice_index_or, slice_set}
-use Rattle.std.proofs.lemmas.List.{get_or-map, get_or_default, get_or-set_same, get_or-set_other, length-map, length-set, map-append}
+use Rattle.std.proofs.lemmas.List.{get_or-map, get_or_default, get_or-set_same, get_or-set_other, length-map, length-set}
 use Rattle.std.proofs.lemmas.List.Elements.{All-append, Contains-get_or}
 use Rattle.std.proofs.Math.Seq.{map-set_same}
 use Rattle.hp_base.proofs.Puts.{same_or_other}

@@ -1,26 +1,22 @@
 -- What is noted of a run stays right, moment by moment.
 use Rattle.std.proofs.Common.{◌≡◌, ◌≢◌, ℕ, zero, suc, ◌+◌, ◌-◌, ◌<◌, ◌≤◌, List, [], ◌∷◌, length, refl, sym, ap, subst, ◌∙◌, arith, inl, inr}
-use Rattle.std.specs.Prelude.{◌↔◌, ◌⊎◌, ◌==◌, if◌then◌else◌, Bool, true, false, Option, None, Some, IfSome, replicate, slice_index_or, slice_set}
+use Rattle.std.specs.Prelude.{◌↔◌, ◌⊎◌, Bool, true, false, Option, None, Some, IfSome, replicate, slice_index_or, slice_set}
 use Rattle.std.specs.Option.{option_map}
 use Rattle.std.proofs.lemmas.Bool.Decides.{nat_tests}
-use Rattle.std.proofs.lemmas.List.{get_or-replicate, get_or-set_same, get_or-set_other, get_or_past, length-replicate, length-set}
-use Rattle.hp_base.proofs.Puts.{put_same, same_or_other}
+use Rattle.std.proofs.lemmas.List.{get_or-set_same, get_or-set_other, get_or_past, length-set}
+use Rattle.hp_base.proofs.Puts.{same_or_other}
 use Rattle.hp_base.specs.Text.{sizes}
-use Rattle.hp_base.specs.declared.answer.Answer.{Answer}
 use Rattle.hp_base.specs.declared.config.Config.{Config}
 use Rattle.hp_base.specs.declared.event.Event.{Event}
-use Rattle.hp_base.specs.declared.event.Event.TheVariants.{Begin, Step, Kill, Resize}
-use Rattle.hp_base.specs.declared.event.Op.{Op}
 use Rattle.hp_machine.specs.State.{State}
 use Rattle.hp_machine.specs.Events.{IsReached, first, word_of}
 use Rattle.hp_machine.specs.declared.call.Call.{Call}
 use Rattle.hp_machine.specs.declared.outcome.Outcome.{Outcome}
-use Rattle.hp_machine.specs.declared.outcome.Outcome.TheVariants as outcome
 use Rattle.hp_machine.specs.declared.outcome.Outcome.TheVariants.{Blocked}
 use Rattle.hp_machine.specs.declared.phase.Phase.{Phase}
 use Rattle.hp_laws.specs.Laws.{IsOf}
 use Rattle.hp_laws.proofs.Nearing.{others_stay}
-use Rattle.hp_laws.proofs.Reading.{begin_cases, step_cases}
+use Rattle.hp_laws.proofs.Reading.{step_cases}
 use Rattle.hp_core.specs.Holding.{held_by, holding_of}
 use Rattle.hp_core.specs.Passing.{may_wait, task_may_pass}
 use Rattle.hp_core.specs.Readers.{config_of, phase_of}
@@ -36,10 +32,6 @@ use Rattle.hp_phases.proofs.Places.{one_place, there}
 use Rattle.hp_summary.specs.Facts.{IsHeldUp, StandTogether}
 use Rattle.hp_watch.specs.Moments.{Moment, Once}
 use Rattle.hp_summary.specs.Noting.{AreHeldUp, AreMet, IsLookedAt, IsQuiet}
-use Rattle.hp_watch.specs.CallWords as named
-use Rattle.hp_watch.specs.declared.call_word.CallWord.{CallWord}
-use Rattle.hp_watch.specs.declared.call_word.CallWord.TheVariants.{Nothing}
-use Rattle.hp_watch.specs.declared.calls.EndedCall.{EndedCall}
 use Rattle.hp_summary.specs.Phases.{ArePair, IsMarked, MeetsBelow, beside, pair_place}
 use Rattle.hp_watch.proofs.Standing.{stands_there}
 

@@ -13,7 +13,6 @@ use Rattle.hp_core.specs.State.{CoreState}
 use Rattle.hp_watch.specs.CallWords.{word_of}
 use Rattle.hp_watch.specs.Calls.{AreCalls, asked_word, calls_begun, calls_of, is_begin, is_begun, last_call, none_begun}
 use Rattle.hp_watch.specs.Moments.{Moment}
-use Rattle.hp_watch.specs.declared.call_word.CallWord.{CallWord}
 use Rattle.hp_watch.specs.declared.calls.TaskCalls.{TaskCalls}
 
 -- room behind the end has no calls

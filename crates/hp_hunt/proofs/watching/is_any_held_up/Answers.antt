@@ -1,4 +1,4 @@
-use Rattle.std.proofs.Common.{◌≡◌, ◌∙◌, ◌≤◌, ap, arith}
+use Rattle.std.proofs.Common.{ap}
 use Rattle.hp_base.specs.Text.{Sizes}
 use Rattle.hp_hunt.proofs.Watched.{none_held_up, none_more}
 use Rattle.hp_hunt.proofs.watching.is_any_held_up.Goals as goal

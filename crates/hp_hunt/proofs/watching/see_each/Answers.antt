@@ -3,7 +3,7 @@ use Rattle.hp_watch.specs.Moments.{Moment}
 use Rattle.hp_hunt.specs.declared.watching.Watch.{Watch}
 use Rattle.hp_hunt.proofs.Watched.{one_seen, all_seen}
 use Rattle.hp_hunt.proofs.watching.see_each.Goals as goal
-use Rattle.std.proofs.Common.{◌<◌, ◌≤◌, length, ap, arith}
+use Rattle.std.proofs.Common.{◌≤◌, length, ap, arith}
 use Rattle.std.specs.Prelude.{slice_index_or}
 
 pub loop-place-preserved : goal.loop-place-preserved

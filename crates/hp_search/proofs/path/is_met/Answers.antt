@@ -1,7 +1,6 @@
-use Rattle.std.proofs.Common.{◌∙◌, List, ap, length, refl, subst, sym}
+use Rattle.std.proofs.Common.{◌∙◌, List, ap, length, refl}
 use Rattle.hp_every.specs.declared.turn.Turn.{Turn}
 use Rattle.std.specs.Prelude.{◌==◌}
-use Rattle.hp_hunt.specs.Watching.{AllKnow}
 use Rattle.hp_search.specs.Searching.{place_of}
 use Rattle.hp_search.proofs.Kept.{ends_met}
 use Rattle.hp_search.proofs.path.is_met.Goals as goal

@@ -1,6 +1,4 @@
-use Rattle.std.proofs.Common.{◌<◌, List, arith, subst, sym}
-use Rattle.std.specs.Prelude.{slice_index_or}
-use Rattle.hp_hunt.specs.declared.watching.Watch.{Watch}
+use Rattle.std.proofs.Common.{arith}
 use Rattle.hp_hunt.proofs.Watched.{all_met, one_missed}
 use Rattle.hp_hunt.proofs.watching.Watches.are_met.Goals as goal
 

@@ -1,6 +1,4 @@
-use Rattle.std.proofs.Common.{◌≡◌, ◌<◌, ◌≤◌, List, length, arith, subst, sym}
-use Rattle.std.specs.Prelude.{slice_index_or}
-use Rattle.hp_hunt.specs.declared.watching.Watch.{Watch}
+use Rattle.std.proofs.Common.{◌<◌, length, arith}
 use Rattle.hp_hunt.proofs.Watched.{choice_missed, knows_at, none_met}
 use Rattle.hp_hunt.proofs.watching.Watches.is_choice_met.Goals as goal
 use Rattle.hp_hunt.proofs.watching.Watches.is_choice_met.Goals.{else-watch-choice-via-then-watch-choice+else-is_met, else-watch-choice-via-else-watch-choice}
