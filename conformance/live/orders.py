@@ -235,19 +235,19 @@ def error_of(machine: Steps) -> int:
     return machine.resv - sum(len(it.reserved) - len(it.pages) for it in machine.files)
 
 
-def moves_of(run: Run, may_deny: Callable[[Call], bool]) -> Iterator[Move]:
+def may_deny(run: Run, call: Call) -> bool:
+    """Whether an allocation may fail: by Linux's rules where it does so in recordings, by the machine's anywhere."""
+    return run.denials > 0 and (not run.machine.rules or f"{call.table}.{call.phase}" in DENIABLE)
+
+
+def moves_of(run: Run) -> Iterator[Move]:
     """The steps that tasks may try."""
     for number, task in run.machine.tasks.items():
         if task.call is None and (task.is_dead or not run.may_begin(number)):
             continue
         yield Move(number)
-        if run.denials and task.call is not None and may_deny(task.call):
+        if task.call is not None and may_deny(run, task.call):
             yield Move(number, False)
-
-
-def may_deny(call: Call) -> bool:
-    """By Linux's rules: where allocations fail in recordings."""
-    return f"{call.table}.{call.phase}" in DENIABLE
 
 
 def explore(first: Run, most: int, tell: Callable[[Found, int], None] = lambda found, left: None) -> Found:
@@ -273,7 +273,7 @@ def expand(packing: Packing, found: Found, seen: set, after: list, name: int, st
     """Adds the states behind one, and returns whether a task may go on there."""
     is_going = False
     run = packing.unpacked(state)
-    for move in list(moves_of(run, may_deny)):
+    for move in list(moves_of(run)):
         there = packing.unpacked(state)
         if there.move(move).kind == "blocked":
             continue

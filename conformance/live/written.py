@@ -45,11 +45,11 @@ class Writer:
 
     def say(self, kind: str, a: int = 0, b: int = 0, c: int = 0) -> None:
         """An event of the call about its file."""
-        self.log(kind, THREAD + self.call.task.number, INODE + self.call.file, a, b, c)
+        self.log(kind, THREAD + self.call.task.number, INODE + self.file, a, b, c)
 
     def say_map(self, kind: str, first: int, end: int, c: int = 0) -> None:
         """An event of the call about its file's reserve map."""
-        self.log(kind, THREAD + self.call.task.number, MAP + self.call.file, first, end, c)
+        self.log(kind, THREAD + self.call.task.number, MAP + self.file, first, end, c)
 
     def say_own(self, kind: str, a: int = 0, b: int = 0, c: int = 0) -> None:
         """An event of the call about its task, or about nothing."""
@@ -58,7 +58,7 @@ class Writer:
     def before(self, call: Call) -> None:
         """Notes what is so before a row, where the row's events are about that."""
         file = self.machine.files[call.file]
-        self.resv, self.size = self.machine.resv, file.size
+        self.file, self.resv, self.size = call.file, self.machine.resv, file.size
         self.index, self.missing, self.charged, self.is_reserved = call.index, call.missing, call.charged, call.index in file.reserved
 
     def row(self, move: Move, call: Call, phase: str, outcome: Outcome) -> None:
@@ -116,6 +116,7 @@ class Writer:
 
     def on_touch_look(self, call: Call, outcome: Outcome) -> None:
         if outcome.kind == "moved":
+            self.file = call.file
             self.say("fault", call.index)
         elif outcome.value == "segv":
             self.answer("g")
