@@ -7,7 +7,7 @@ from __future__ import annotations
 from typing import Callable, Iterable
 
 from machine import Call, Outcome
-from orders import Move, Run, Script
+from schedule_runs import Move, Run, Script
 from recordings import CALLS, NONE, Event, Recording
 
 LETTERS = {name: letter for letter, name in CALLS.items()}
