@@ -1,4 +1,4 @@
-"""The command line: ./kernel test, minimize, reproduce, audit, scripts and known."""
+"""The command line: ./kernel test, minimize, reproduce, schedules, audit, scripts and known."""
 from __future__ import annotations
 
 import kernel.quiet  # (first: it says what Ctrl-C does meanwhile)
@@ -14,7 +14,7 @@ from pathlib import Path
 from typing import NoReturn
 
 import generate
-from kernel import kernels, report, reproduce, suites
+from kernel import exploring, kernels, report, reproduce, suites
 from kernel.audit import command as audit
 from kernel.kernels import Emulation, Kernel, say
 from kernel.known import FOLDER, Known, known_issues
@@ -34,6 +34,7 @@ ABOUT = """Finds the calls in which a Linux kernel differs from the machine of t
   ./kernel test --kernel bzImage --scripts new.txt             scripts of your own
   ./kernel minimize new.txt --kernel bzImage                   the smallest script that still differs
   ./kernel reproduce --package linux-image-cloud-amd64         the reports' reproducers, and whether their errors show
+  ./kernel schedules my.script                                 all schedules of calls of your own, by Linux's rules
   ./kernel audit --core vmcore                                 who has reserved what in a kernel or a dump, and whether its counts are right
   ./kernel known                                               the known issues
 """
@@ -104,6 +105,9 @@ def parser() -> argparse.ArgumentParser:
     shown.add_argument("--race-seconds", type=positive, default=60, metavar="N", help="how long a race is tried (60)")
     shown.add_argument("--seconds", type=positive, default=900, metavar="N", help="ends an emulated machine that isn't done by then (900)")
     audit.add_words(commands.add_parser("audit", help="audits a kernel or a dump", description=audit.ABOUT, epilog=audit.AFTER, formatter_class=RAW))
+    orders = commands.add_parser("schedules", help="searches all schedules of a script by Linux's rules", description=exploring.ABOUT,
+                                 epilog=exploring.AFTER, formatter_class=RAW)
+    exploring.add_words(orders)
     more = commands.add_parser("scripts", help="prints random scripts", description="Prints random scripts; the seed says which.")
     more.add_argument("--seed", type=natural, required=True, metavar="N")
     more.add_argument("--count", type=natural, default=100, metavar="N", help="how many (100)")
@@ -239,7 +243,8 @@ def run_scripts(options: argparse.Namespace) -> int:
     return generate.main([str(options.seed), str(options.count), options.kind])
 
 
-COMMANDS = {"test": run_test, "minimize": run_minimize, "reproduce": run_reproduce, "audit": audit.run, "scripts": run_scripts, "known": run_known}
+COMMANDS = {"test": run_test, "minimize": run_minimize, "reproduce": run_reproduce, "schedules": exploring.run,
+            "audit": audit.run, "scripts": run_scripts, "known": run_known}
 
 
 def end_by_signal(number: int, _: object) -> NoReturn:

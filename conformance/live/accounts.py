@@ -73,20 +73,25 @@ WORDS: dict[str, Callable[[Event], str]] = {
 }
 
 
-def account(placement: Placement) -> Iterator[str]:
-    """The lines of the account, up to where Linux leaves the machine."""
+def account(placement: Placement, goes_on: bool = False) -> Iterator[str]:
+    """The lines of the account, up to where Linux leaves the machine; where it goes on, Linux's alone behind that."""
     rows: dict[int, list[str]] = {}
     for row in placement.rows:
         rows.setdefault(row.event, []).append(f"{row.line}: {row.outcome}")
-    first = placement.run[0].number
+    left = iter([f"   Linux leaves the machine: {placement.fault}"] if placement.fault else [])
     yield f"{placement.header}; Linux's task and event, with its free and reserve counts behind it | rows of the machine"
     for event in placement.run:
+        if placement.fault is not None and event.number > placement.event.number:
+            yield from left
+            if not goes_on:
+                return
         racer = placement.racers.get(event.thread)
-        is_over = placement.fault is not None and event.number > placement.event.number
-        if event.kind not in WORDS or is_over or racer is None and event.kind not in OF_ANY_THREAD:
-            continue
-        what = WORDS[event.kind](event)
-        made = "; ".join(rows.get(event.number, []))
-        yield f"{event.number - first:5}  {racer.number if racer else '-'}  {what:<52} {event.free:3} {event.resv:3}  | {made}".rstrip()
-    if placement.fault:
-        yield f"   Linux leaves the machine: {placement.fault}"
+        if event.kind in WORDS and (racer is not None or event.kind in OF_ANY_THREAD):
+            yield line_of(placement, event, racer.number if racer else None, rows)
+    yield from left
+
+
+def line_of(placement: Placement, event: Event, task: int | None, rows: dict[int, list[str]]) -> str:
+    made = "; ".join(rows.get(event.number, []))
+    number = event.number - placement.run[0].number
+    return f"{number:5}  {task or '-'}  {WORDS[event.kind](event):<52} {event.free:3} {event.resv:3}  | {made}".rstrip()
