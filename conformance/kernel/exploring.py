@@ -180,7 +180,7 @@ def steps(number: int) -> str:
 
 def summary(options: argparse.Namespace, found: Found) -> Iterator[str]:
     rules, _ = VERSIONS[options.linux]
-    failing = "no allocation fails" if not options.denials else f"at most {options.denials} allocation{'s' * (options.denials > 1)} fail"
+    failing = {0: "no allocation fails", 1: "at most 1 allocation fails"}.get(options.denials, f"at most {options.denials} allocations fail")
     yield f"Linux {options.linux}, by its rules {' '.join(sorted(rules))}; {SLOTS} slots; {failing}"
     yield f"{found.states} states, {found.rests} of them at rest{'' if found.is_whole else '; not all: there are more'}"
     errors = sorted(it for it in found.errors if it)
