@@ -17,6 +17,8 @@ LOCAL = frozenset((
 DENIABLE = frozenset(("touch.missing", "alloc.missing", "map.missing", "touch.committed", "alloc.committed", "punch.delete"))
 # answers for which a touch ends in SIGBUS although its page was promised
 REFUSED = ("noframe", "noquota")
+# in place of the answer of a touch that Linux lets fault again
+AGAIN = "again"
 # phases of a page that is made in which the call still reads what it lacked
 LACKING = ("changed", "taken", "settle", "committed", "restore", "judged", "back", "abort")
 
@@ -123,12 +125,18 @@ class Steps(Rows):
     def truncate_settle(self, call: Call) -> Outcome:
         return moved("settle") if self.put_excess(call, call.removed - call.evicted) else super().truncate_settle(call)
 
-    # a touch that has its translation begins anew, since the translation may be gone by then
+    # a touch begins anew once it has its translation, which may be gone by then, and where its change was refused memory
+
+    def make_missing(self, call: Call) -> Outcome:
+        outcome = super().make_missing(call)
+        if self.rules and call.table == "touch" and outcome.value == "leave":
+            call.answer = AGAIN
+        return outcome
 
     def touch_leave(self, call: Call) -> Outcome:
-        is_served = call.answer.split(" ")[0] in ("word", "done")
+        begins_anew = call.answer.split(" ")[0] in ("word", "done", AGAIN)
         outcome = super().touch_leave(call)
-        if not self.rules or not is_served:
+        if not self.rules or not begins_anew:
             return outcome
         call.answer, call.index, call.file = "", 0, 0
         return moved("look")
