@@ -56,6 +56,7 @@ class Marks:
     """The events of a recording that are compared, in a form that doesn't depend on inodes, threads and frames."""
 
     def __init__(self, run: Recording) -> None:
+        self.has_quota = header_of(run)[3] is not None
         self.tasks = {it.thread: it.a for it in run if it.kind == "task"}
         self.files = {it.about: it.a for it in run if it.kind == "file"}
         self.maps = {it.b & UNSIGNED: it.a for it in run if it.kind == "file"}
@@ -111,6 +112,10 @@ class Marks:
     def on_unused(self, it: Event, then: Event | None) -> Mark | None:
         """(one that is followed by a refusal takes back what that had raised)"""
         return None if then is not None and then.kind == "account" and then.b else (-it.a, False, it.resv)
+
+    def on_quota(self, it: Event, _: Event | None) -> Mark | None:
+        """(what is given back falls with the frame here, and a moment earlier in Linux)"""
+        return None if it.a <= 0 or not self.has_quota else (it.a, it.c != 0)
 
     def on_free(self, it: Event, _: Event | None) -> Mark:
         return it.free, it.resv

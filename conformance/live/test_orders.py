@@ -11,6 +11,7 @@ import random
 import sys
 from dataclasses import dataclass
 from functools import cache
+from itertools import islice
 from pathlib import Path
 from typing import Callable, Iterator
 
@@ -23,7 +24,7 @@ from events import Attempt, placed  # noqa: E402
 from following import Follower  # noqa: E402
 from kernel_steps import Steps  # noqa: E402
 from linux_rows import BATCH, machine_of  # noqa: E402
-from machine import LIMIT, Call, Outcome, moved  # noqa: E402
+from machine import LIMIT, Call, Outcome, Task, moved  # noqa: E402
 from orders import Search  # noqa: E402
 from packing import Packing  # noqa: E402
 from placing import SLOTS  # noqa: E402
@@ -35,9 +36,9 @@ FOLDER = Path(__file__).resolve().parent
 RULES = "BDFNPQSTU"
 # smallest recordings of what no script has: a kill, and resizes
 WITHOUT = ("interrupted-and-extended", "pages-over-the-size")
-# recordings of each file that are followed, and the files
+# recordings of each file that are followed; the files, and the first of these
 FEW = 8
-FILES = ("trunc", "settle", "inject", "denied", "quota", "6.12/trunc", "7.3/quota")
+FILES = {"trunc": 0, "settle": 0, "inject": 152, "denied": 0, "quota": 0, "6.12/trunc": 0, "7.3/quota": 60, "kills": 0}
 # a truncation takes translations before it visits their pages, which no row here does: in such a recording a fault finds its page
 EARLY = "a fault of a page that was unmapped early"
 # random scripts
@@ -124,7 +125,13 @@ def same_endings(tried: Tried) -> Iterator[tuple[str, bool]]:
 
 @cache
 def recorded(name: str) -> list[Recording]:
-    return [it for it, _ in zip(recordings(FOLDER / name), range(FEW))]
+    first = FILES.get(name.removeprefix("recordings/").removesuffix(".bin.xz"), 0)
+    return list(islice((it for it in recordings(FOLDER / name) if not is_killed(it)), first, first + FEW))
+
+
+def is_killed(run: Recording) -> bool:
+    """Whether a task ends that doesn't exit."""
+    return sum(it.kind == "dead" for it in run) > sum(it.kind == "begin" and it.about == ord("x") for it in run)
 
 
 def rules_of(name: str) -> str:
@@ -263,6 +270,18 @@ class FreesAtOnce(Steps):
         self.limbo.clear()
 
 
+class EndsWhereDenied(Steps):
+    def touch_missing(self, call: Call) -> Outcome:
+        outcome = super().make_missing(call)
+        call.answer = call.answer and "nomemory"
+        return outcome
+
+
+class HoldsNothing(Steps):
+    def hold(self, task: Task, base: int) -> None:
+        pass
+
+
 class KeepsQuota(Steps):
     def put_charge(self, call: Call) -> Outcome | None:
         call.charged = 0
@@ -335,6 +354,8 @@ PLANTED: tuple[tuple[Tried, tuple[Check, ...]], ...] = (
     (Tried(BacksOutNothing), (followed,)),
     (Tried(AlwaysRaises), (followed,)),
     (Tried(FreesAtOnce), (followed,)),
+    (Tried(EndsWhereDenied), (followed,)),
+    (Tried(HoldsNothing), (followed,)),
     (Tried(KeepsQuota), (accepted,)),
     (Tried(AsksQuotaLate), (followed,)),
     (Tried(LooksUpOne), (accepted,)),
