@@ -41,7 +41,7 @@ OPTION = re.compile(r"--([\w-]+)")
 LINK = re.compile(r"\]\(([^()\s]+)\)")
 PAGES = ("README.md", "docs/*.md", "examples/README.md")
 # commands that print something else each time, or that take a kernel
-NOT_RUN = re.compile(r"^(?:\./kernel|\./check|conformance/live/race\.sh)\b|\brace --t(?:imes|race)")
+NOT_RUN = re.compile(r"^(?:\./kernel(?! schedules)|\./check|conformance/live/race\.sh)\b|\brace --t(?:imes|race)")
 LEFT_OUT_LINES = ".."
 # what a command may take without a proof, and with one
 SECONDS = (10, 300)
