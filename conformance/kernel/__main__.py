@@ -302,7 +302,7 @@ def main() -> int:
     for number in (signal.SIGTERM, signal.SIGHUP, signal.SIGINT):
         signal.signal(number, end_by_signal)
     options = read_words(sys.argv[1:])
-    if options.command in ("scripts", "known"):
+    if options.command in ("scripts", "known", "schedules"):
         signal.signal(signal.SIGPIPE, signal.SIG_DFL)
     return flushed(status_of(options))
 
