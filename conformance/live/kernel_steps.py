@@ -116,6 +116,14 @@ class Steps(Rows):
         self.used -= number if call.has_put else 0
         return call.has_put
 
+    def puts_page(self, call: Call) -> bool:
+        """A page that is about to be free leaves the quota; whether that is a step of its own."""
+        if self.quota is None:
+            return False
+        self.used -= not call.has_put
+        call.has_put = not call.has_put and self.has("Q")
+        return call.has_put
+
     def make_settle(self, call: Call) -> Outcome:
         return moved("settle") if self.put_excess(call, 1) else super().make_settle(call)
 
@@ -159,13 +167,12 @@ class Steps(Rows):
         return moved("back")
 
     def make_back(self, call: Call) -> Outcome:
+        if call.missing and self.puts_page(call):
+            return moved("back")
         self.freed = call.frame
         self.free.add(call.frame)
         call.frame = None
-        if call.missing:
-            self.used -= 1
-        else:
-            self.resv += 1
+        self.resv += not call.missing
         return moved(self.behind(call))
 
     touch_changed = alloc_changed = make_changed
@@ -208,15 +215,17 @@ class Steps(Rows):
         return moved("release") if not call.batch and call.waiting else super().next_page(call)
 
     def release(self, call: Call) -> None:
-        """The next frame becomes free, unless an unmap still has it."""
-        page = call.waiting.pop(0)
+        """The next frame becomes free, unless an unmap still has it; a quota gets its page back in a step before that."""
+        page = call.waiting[0]
         holder = next((it.call for it in self.tasks.values() if it.call is not call and it.call and page[:2] in it.call.held), None)
+        if holder is None and self.puts_page(call):
+            return
+        call.waiting.pop(0)
         if holder is not None:
             holder.waiting.append(page)
         else:
             self.freed = page[2]
             self.free.add(page[2])
-            self.used -= 1
 
     def punch_release(self, call: Call) -> Outcome:
         self.release(call)

@@ -58,7 +58,7 @@ class Writer:
     def before(self, call: Call) -> None:
         """Notes what is so before a row, where the row's events are about that."""
         file = self.machine.files[call.file]
-        self.file, self.resv, self.size = call.file, self.machine.resv, file.size
+        self.file, self.resv, self.used, self.size = call.file, self.machine.resv, self.machine.used, file.size
         self.index, self.missing, self.charged, self.is_reserved = call.index, call.missing, call.charged, call.index in file.reserved
 
     def row(self, move: Move, call: Call, phase: str, outcome: Outcome) -> None:
@@ -247,8 +247,9 @@ class Writer:
         self.say_account(1)
 
     def say_free(self, call: Call) -> None:
-        if self.machine.freed is not None:
+        if self.machine.used < self.used:
             self.say_quota(-1)
+        if self.machine.freed is not None:
             self.say_own("free", page_of(self.machine.freed))
 
     def on_release(self, call: Call, outcome: Outcome) -> None:
