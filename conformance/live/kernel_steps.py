@@ -197,11 +197,14 @@ class Steps(Rows):
         return moved("raise") if call.is_denied or not call.removed else outcome
 
     def punch_raise(self, call: Call) -> Outcome:
-        """Of a quota the index that stays, or the page without one, is used again once its frame is free."""
-        if self.quota is None or not self.has("Q"):
-            self.raise_by(1)
-        elif not call.is_denied or not self.is_beyond_quota(1):
+        """An index that stays, or a page without one, is used once more first: its frame gives that back. Where the quota refuses that of an
+        index that stays, the count isn't raised."""
+        asks = self.has("Q") and self.quota is not None and not call.has_put
+        call.has_put = asks and not (call.is_denied and self.is_beyond_quota(1))
+        if call.has_put:
             self.used += 1
+            return moved("raise")
+        if not asks:
             self.raise_by(1)
         call.is_denied = False
         return moved("unslot")

@@ -59,6 +59,7 @@ class Writer:
         """Notes what is so before a row, where the row's events are about that."""
         file = self.machine.files[call.file]
         self.file, self.resv, self.used, self.size = call.file, self.machine.resv, self.machine.used, file.size
+        self.has_put = call.has_put
         self.index, self.missing, self.charged, self.is_reserved = call.index, call.missing, call.charged, call.index in file.reserved
 
     def row(self, move: Move, call: Call, phase: str, outcome: Outcome) -> None:
@@ -244,7 +245,10 @@ class Writer:
             self.say_account(-number)
 
     def on_raise(self, call: Call, outcome: Outcome) -> None:
-        self.say_account(1)
+        if outcome.value == "raise" or self.machine.quota is not None and not self.has_put:
+            self.say_quota(1, outcome.value != "raise")
+        else:
+            self.say_account(1)
 
     def say_free(self, call: Call) -> None:
         if self.machine.used < self.used:
