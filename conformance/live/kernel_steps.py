@@ -26,6 +26,9 @@ LACKING = ("changed", "taken", "settle", "committed", "restore", "judged", "back
 class Steps(Rows):
     """The rows, and what was promised: for each file the indices that a map has reserved for its caller and no removal has taken since."""
 
+    # the rows that are made together with the row before them
+    local = LOCAL
+
     def __init__(self, *config: int) -> None:
         super().__init__(*config)
         self.slot_count = config[2]

@@ -4,7 +4,7 @@ from __future__ import annotations
 from dataclasses import dataclass
 from typing import Iterator, NamedTuple, Protocol
 
-from kernel_steps import DENIABLE, LOCAL, Steps, steps_of
+from kernel_steps import DENIABLE, Steps, steps_of
 from machine import Call, Outcome
 
 
@@ -84,7 +84,7 @@ class Run:
             is_refusing |= machine.is_refusing
             if watch is not None:
                 watch.row(move, call, phase, outcome)
-            if outcome.kind != "moved" or not machine.rules or f"{call.table}.{call.phase}" not in LOCAL:
+            if outcome.kind != "moved" or not machine.rules or f"{call.table}.{call.phase}" not in machine.local:
                 break
             is_granted = True
         machine.is_refusing = is_refusing

@@ -226,6 +226,25 @@ def summary(found: object) -> tuple:
     return found.states, found.rests, found.endings, {it: len(found.schedule(at)) for it, at in found.errors.items()}, found.is_whole
 
 
+class Apart(Steps):
+    """Makes each row in a step of its own."""
+
+    local = frozenset()
+
+
+def same_apart(tried: Tried) -> Iterator[tuple[str, bool]]:
+    """Rows that are made together end where they do in steps of their own."""
+    compared = 0
+    for number, text in enumerate(texts()):
+        script = Script(*schedules.read_script(text))._replace(slots=SLOTS)
+        found, slow = (it.search(it.begin(script, RULES, BATCH), MOST).run(lambda found, left: None) for it in (tried, Tried(Apart)))
+        if slow.is_whole:
+            compared += 1
+            ends = [(it.endings, set(it.errors), it.refused is None) for it in (found, slow)]
+            yield f"script {number}: rows made together end as they do apart", ends[0] == ends[1]
+    yield f"most are compared ({compared})", compared >= 15
+
+
 # promises
 
 # what tasks call, how many allocations may fail, and whether a promised touch may be refused. The first is what docs/LINUX.md tells of (a),
@@ -319,6 +338,10 @@ class DeniesNothing(Steps):
         return super().step(number, True)
 
 
+class TakesTogether(Steps):
+    local = Steps.local | {"touch.changed", "touch.taken"}
+
+
 class ForgetsCounts(Search):
     """Takes a step to come to the same whatever the counts are."""
 
@@ -362,6 +385,7 @@ PLANTED: tuple[tuple[Tried, tuple[Check, ...]], ...] = (
     (Tried(PromisesMore), (promises,)),
     (Tried(PromisesNothing), (promises,)),
     (Tried(DeniesNothing), (followed, promises, same_endings)),
+    (Tried(TakesTogether), (same_apart,)),
     (Tried(search=ForgetsCounts), (same_endings, same_without_keeping)),
     (Tried(search=WaitsForNobody), (same_without_keeping,)),
     (Tried(search=StopsEarly), (same_endings, same_without_keeping)),
@@ -384,7 +408,7 @@ def planted() -> Iterator[tuple[str, bool]]:
 
 
 def main() -> int:
-    tried = [it for check in (same_endings, followed, accepted, same_without_keeping, promises) for it in check(RIGHT)]
+    tried = [it for check in (same_endings, followed, accepted, same_without_keeping, same_apart, promises) for it in check(RIGHT)]
     tried += planted()
     wrong = [what for what, is_so in tried if not is_so]
     print("".join(f"  not so: {it}\n" for it in wrong), end="")
