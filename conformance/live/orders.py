@@ -9,7 +9,7 @@ from dataclasses import dataclass, field
 from typing import Callable, Iterator, NamedTuple
 
 from kernel_steps import Steps
-from packing import COUNTS, Packing
+from packing import COUNTS, About, Packing
 from schedule_runs import Move, Run, error_of
 
 State = tuple[int, ...]
@@ -95,7 +95,7 @@ class Search:
                 if it.is_deniable and state[COUNTS - 1]:
                     yield (number + 1) * TASK + DENIED
             elif not it.is_dead and it.made < len(self.script.queues[number]):
-                if all(about[one].made - (not about[one].is_idle) >= calls for one, calls in self.script.needs[number][it.made]):
+                if all(has_ended(about[one], calls) for one, calls in self.script.needs[number][it.made]):
                     yield (number + 1) * TASK
 
     def behind(self, state: State, move: int) -> tuple[State, bool] | None:
@@ -137,6 +137,11 @@ class Search:
         self.found.rests += 1
         self.found.errors.setdefault(error_of(machine), name)
         self.found.endings.add(ending(machine))
+
+
+def has_ended(it: About, calls: int) -> bool:
+    """Whether a task's first calls have ended. (Those behind its exit are passed over.)"""
+    return it.is_dead or it.made - (not it.is_idle) >= calls
 
 
 def ending(machine: Steps) -> tuple:

@@ -45,12 +45,15 @@ class Run:
     denials: int = 0
 
     def may_begin(self, number: int) -> bool:
-        """Whether a task has a call left, and all that it waits for have ended."""
+        """Whether a task has a call left, and all that it waits for have ended. (The calls of a task behind its exit are passed over.)"""
         at = self.made[number - 1]
         if at == len(self.script.queues[number - 1]):
             return False
-        tasks = self.machine.tasks
-        return all(self.made[it] - (tasks[it + 1].call is not None) >= calls for it, calls in self.script.needs[number - 1][at])
+        return all(self.has_ended(it + 1, calls) for it, calls in self.script.needs[number - 1][at])
+
+    def has_ended(self, number: int, calls: int) -> bool:
+        task = self.machine.tasks[number]
+        return task.is_dead or self.made[number - 1] - (task.call is not None) >= calls
 
     def begin(self, number: int) -> None:
         words = self.script.queues[number - 1][self.made[number - 1]]

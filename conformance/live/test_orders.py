@@ -47,6 +47,10 @@ SEEDS = range(1, 19)
 MOST, FEWER, FEWEST, WALKS = 8_000, 1_000, 500, 3
 
 
+# a call that waits for calls behind an exit, which are passed over
+BEHIND_AN_EXIT = "script 2 1 64 2\nbegin 1 map 0 0 1\nbegin 1 exit\nbegin 1 load 0\nafter 1\nbegin 2 map 0 1 1\n"
+
+
 def examples() -> list[str]:
     """The scripts of examples/ that have three tasks at most."""
     texts = [it.read_text(encoding="utf-8") for it in sorted((TOP / "examples").glob("*.script"))]
@@ -57,7 +61,7 @@ def examples() -> list[str]:
 def texts() -> list[str]:
     """The examples' scripts, and random ones whose calls are on files and ranges that are there."""
     drawn = [every.random_script(random.Random(seed)) for seed in SEEDS]
-    return examples() + [it for it in drawn if covers(Script(*schedules.read_script(it)))]
+    return examples() + [BEHIND_AN_EXIT] + [it for it in drawn if covers(Script(*schedules.read_script(it)))]
 
 
 def covers(script: Script) -> bool:
