@@ -5,7 +5,7 @@ Here these are rows. Without any letter of a rule the rows are the machine's.
 """
 from __future__ import annotations
 
-from machine import Call, Machine, Outcome, Task, moved
+from machine import LIMIT, Call, Outcome, Task, moved
 from repairs import Rows
 
 # by Linux's rules nobody else can tell whether these rows came before or after what others did meanwhile, and none of them waits
@@ -24,7 +24,11 @@ LACKING = ("changed", "taken", "settle", "committed", "restore", "judged", "back
 
 
 class Steps(Rows):
-    """The rows, and what was promised: for each file the indices that a map has reserved for its caller and no removal has taken since."""
+    """The rows, and what was promised: for each file the indices that a map has reserved for its caller and no removal has taken since.
+
+    A promise has a number, the promises withdrawn before it. A touch knows the one that it began with: what a map promises meanwhile is not
+    promised to it.
+    """
 
     # the rows that are made together with the row before them
     local = LOCAL
@@ -32,7 +36,8 @@ class Steps(Rows):
     def __init__(self, *config: int) -> None:
         super().__init__(*config)
         self.slot_count = config[2]
-        self.promised: list[set[int]] = [set() for _ in self.files]
+        self.promised: list[dict[int, int]] = [{} for _ in self.files]
+        self.withdrawn = [0 for _ in self.files]
         # whether a promised touch was refused just now, and the frame that became free just now
         self.is_refusing, self.freed = False, None
 
@@ -47,6 +52,7 @@ class Steps(Rows):
             call.charged, call.has_put = 0, False
             # pages that are evicted and not free yet; pages whose translations an unmap took, and which stay until it ends
             call.waiting, call.held = [], []
+            call.promise = None
             call.file = call.file if call.table in ("map", "alloc", "punch", "truncate") else 0
         return outcome
 
@@ -58,15 +64,27 @@ class Steps(Rows):
         if is_start and outcome.kind == "moved" and call.table in ("punch", "truncate"):
             self.withdraw(call)
         if outcome.kind == "ended" and call.name == "map" and call.answer.startswith("mapped"):
-            self.promised[call.file].update(range(*call.range))
+            self.promise(call)
         if outcome.kind == "moved" and call.table in ("touch", "alloc") and call.phase not in LACKING:
             call.missing = call.added = call.removed = 0
         return outcome
 
+    def promise(self, call: Call) -> None:
+        for index in range(*call.range):
+            self.promised[call.file].setdefault(index, self.withdrawn[call.file])
+
     def withdraw(self, call: Call) -> None:
         """A removal ends the promises of its range. (No map is at work on its file: that needs the file's lock.)"""
+        first, end = call.range if call.table == "punch" else (call.numbers[1], LIMIT)
         promised = self.promised[call.file]
-        promised -= set(range(*call.range)) if call.table == "punch" else {it for it in promised if it >= call.numbers[1]}
+        kept = {index: number for index, number in promised.items() if not first <= index < end}
+        self.withdrawn[call.file] += len(kept) < len(promised)
+        self.promised[call.file] = kept
+
+    def touch_look(self, call: Call) -> Outcome:
+        outcome = super().touch_look(call)
+        call.promise = self.promised[call.file].get(call.index) if outcome.value == "want" else None
+        return outcome
 
     # Q: the quota is asked in a step of its own, and given back in one
 
@@ -88,8 +106,11 @@ class Steps(Rows):
         if outcome.value == "taken":
             call.charged = 0
         else:
-            self.is_refusing = call.table == "touch" and call.index in self.promised[call.file] and call.answer in REFUSED
+            self.is_refusing = call.answer in REFUSED and self.is_promised(call)
         return outcome
+
+    def is_promised(self, call: Call) -> bool:
+        return call.table == "touch" and call.promise is not None and self.promised[call.file].get(call.index) == call.promise
 
     def map_changed(self, call: Call) -> Outcome:
         if self.asks_apart(call):

@@ -40,7 +40,7 @@ class Slots(dict):
 # what a state begins with: the reserve count, and the numbers of free frames, of used pages and of denials that are left
 COUNTS = 4
 CALL = ("phase", "file", "index", "missing", "added", "evicted", "removed", "base", "is_denied", "is_over_quota", "has_more", "charged",
-        "has_put", "cleared")
+        "has_put", "cleared", "promise")
 
 
 # phases in which a call has no slot
@@ -119,7 +119,12 @@ class Packing:
     def file(self, machine: Steps, at: int) -> tuple:
         it = machine.files[at]
         spare = it.spare if self.has_spare else 0
-        return it.size, frozenset(it.reserved), frozenset(it.pages), it.pending, spare, machine.locks[at], frozenset(machine.promised[at])
+        return it.size, frozenset(it.reserved), frozenset(it.pages), it.pending, spare, *self.around(machine, at)
+
+    @staticmethod
+    def around(machine: Steps, at: int) -> tuple:
+        """What there is of a file beside it: its lock, and what was promised and withdrawn of it."""
+        return machine.locks[at], frozenset(machine.promised[at].items()), machine.withdrawn[at]
 
     def task(self, it: Task, made: int) -> tuple:
         # (the number says which calls these are)
@@ -139,7 +144,7 @@ class Packing:
         machine.is_refusing = False
         files = [self.parts[it] for it in numbers[: self.script.files]]
         machine.files = [File(it[0], set(it[1]), dict.fromkeys(it[2], 0), it[3], it[4]) for it in files]
-        machine.locks, machine.promised = [it[5] for it in files], [set(it[6]) for it in files]
+        machine.locks, machine.promised, machine.withdrawn = [it[5] for it in files], [dict(it[6]) for it in files], [it[7] for it in files]
         machine.tasks, made = {}, []
         for number, part in enumerate(numbers[self.script.files :], 1):
             _, count, is_dead, mappings, table, call = self.parts[part]

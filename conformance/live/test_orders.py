@@ -49,6 +49,8 @@ MOST, FEWER, FEWEST, WALKS = 8_000, 1_000, 500, 3
 
 # a call that waits for calls behind an exit, which are passed over
 BEHIND_AN_EXIT = "script 2 1 64 2\nbegin 1 map 0 0 1\nbegin 1 exit\nbegin 1 load 0\nafter 1\nbegin 2 map 0 1 1\n"
+# a touch that begins before a map is done: by the machine's rows, too, it may find no frame
+MEANWHILE = "pool 1 1 64 2\nbegin 1 map 0 0 1\nbegin 2 mapn 0 0 1\nbegin 2 store 0 1\n"
 
 
 def examples() -> list[str]:
@@ -61,7 +63,7 @@ def examples() -> list[str]:
 def texts() -> list[str]:
     """The examples' scripts, and random ones whose calls are on files and ranges that are there."""
     drawn = [every.random_script(random.Random(seed)) for seed in SEEDS]
-    return examples() + [BEHIND_AN_EXIT] + [it for it in drawn if covers(Script(*schedules.read_script(it)))]
+    return examples() + [BEHIND_AN_EXIT, MEANWHILE] + [it for it in drawn if covers(Script(*schedules.read_script(it)))]
 
 
 def covers(script: Script) -> bool:
@@ -260,6 +262,8 @@ PROMISES = (
     ("script 1 2 64 2\nbegin 1 mapn 0 0 1\nbegin 1 store 0 1\nbegin 2 map 0 0 1\nafter 1\nbegin 2 alloc 1 0 1\nbegin 2 load 0\n", 0, False),
     # a punch ends the promise
     ("script 1 2 64 2\nbegin 1 map 0 0 1\nbegin 1 store 0 1\nbegin 1 punch 0 0 1\nafter 1\nbegin 2 alloc 1 0 1\nafter 2\nbegin 1 store 0 1\n", 0, False),
+    # what is promised once a touch is at work isn't promised to it
+    (MEANWHILE, 0, False),
     # without a reservation nothing is promised
     ("pool 1 2 64 2\nbegin 1 mapn 0 0 1\nbegin 1 store 0 1\nbegin 2 alloc 1 0 1\n", 0, False),
 )
@@ -328,6 +332,11 @@ class PromisesMore(Steps):
         pass
 
 
+class PromisesMeanwhile(Steps):
+    def is_promised(self, call: Call) -> bool:
+        return call.table == "touch" and call.index in self.promised[call.file]
+
+
 class PromisesNothing(Steps):
     def make_changed(self, call: Call) -> Outcome:
         outcome = super().make_changed(call)
@@ -387,6 +396,7 @@ PLANTED: tuple[tuple[Tried, tuple[Check, ...]], ...] = (
     (Tried(AsksQuotaLate), (followed,)),
     (Tried(LooksUpOne), (accepted,)),
     (Tried(PromisesMore), (promises,)),
+    (Tried(PromisesMeanwhile), (promises, same_endings)),
     (Tried(PromisesNothing), (promises,)),
     (Tried(DeniesNothing), (followed, promises, same_endings)),
     (Tried(TakesTogether), (same_apart,)),
