@@ -273,6 +273,9 @@ def promises(tried: Tried) -> Iterator[tuple[str, bool]]:
     for number, (text, denials, is_refused) in enumerate(PROMISES):
         found = tried.search(tried.begin(Script(*schedules.read_script(text)), RULES, BATCH, denials), MOST).run(lambda found, left: None)
         yield f"promise {number} can{'' if is_refused else 't'} be broken", found.is_whole and (found.refused is not None) == is_refused
+        if found.refused is not None:
+            run = recording(tried.begin(Script(*schedules.read_script(text)), RULES, BATCH, denials), found.schedule(found.refused))
+            yield f"promise {number}: the machine keeps it", placed(run).fault is not None and placed(run).fault.kind != "NOT UNDERSTOOD"
 
 
 # wrong ones
