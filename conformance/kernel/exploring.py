@@ -47,7 +47,8 @@ machine, up to where the two part.
   ./kernel schedules --linux 7.3 --denials 1 --trace parts.trace mine.script
   ./hugepool explain parts.trace"""
 AFTER = f"""SCRIPT says what each task calls, as for './hugepool find' (docs/EXPLORING.md); calls may wait for others. A fault mutex table has
-{SLOTS} slots here, whatever the script has. A map's promise holds until a punch or a truncation takes the page.
+{SLOTS} slots here, whatever the script has. A page is promised to touches that begin after a map of it with reservation has returned,
+and before a punch or a truncation of it begins.
 
 Status: 0 something goes wrong in some schedule; 1 in none; 2 could not run; 3 nothing wrong in --states states, and there are more.
 docs/LINUX.md has the rules, and what they leave out."""
