@@ -72,6 +72,8 @@ BAD = (
     (SCRIPT + "kill 1\n", "line 3: a script has lines"),
     (SCRIPT + "resize 3\n", "line 3: a script has lines"),
     (SCRIPT + "\n", "line 3: a script has lines"),
+    (SCRIPT + "begin 1 load 0\r\n", "line 3: a script has lines"),
+    (SCRIPT + "begin 1 load 0\fbegin 1 load 0\n", "line 3: a script has lines"),
     (SCRIPT + "begin 3 load 0\n", "line 3: the pool has tasks 1 to 2"),
     (SCRIPT + "begin 1\n", "line 3: the calls are map, mapn, load"),
     (SCRIPT + "begin 1 mremap 0\n", "line 3: the calls are map, mapn, load"),

@@ -77,8 +77,8 @@ RANGES = ("map", "mapn", "alloc", "allock", "punch")
 
 def script_of(text: str) -> Script:
     """The script that a text is, or the first line that is none."""
-    lines = text.splitlines()
-    if not lines:
+    lines = text.removesuffix("\n").split("\n")
+    if not text:
         raise Problem("a script has a header 'pool FRAMES FILES SLOTS TASKS', and this text has no line")
     header = header_of(lines[0])
     pages: dict[int, int] = {}
