@@ -4,11 +4,15 @@
 Without any rule it has to end just where the search of conformance/schedules.py ends. By the rules recordings have to be among the
 schedules of what their tasks call, and each schedule has to be one that check.py accepts. Then rows and searches that are wrong are tried:
 each has to be noticed.
+
+usage: test_orders.py          the tests, in half a minute
+       test_orders.py --all    follows all recordings of recordings/, in some eight minutes, and prints how many are such schedules
 """
 from __future__ import annotations
 
 import random
 import sys
+from collections import Counter
 from dataclasses import dataclass
 from functools import cache
 from itertools import islice
@@ -169,6 +173,33 @@ def followed(tried: Tried) -> Iterator[tuple[str, bool]]:
             else:
                 yield f"{name} #{number} is a schedule of what its tasks call", error == error_at_rest(run)
     yield f"of few recordings ({early}) a fault finds its translation gone early", early <= 10
+
+
+# recordings with resizes, and of an earlier form of the log
+NOT_FOLLOWED = ("resizes", "first")
+# the log has a count a moment after it was lowered
+LATE = "a count lowered before its event"
+
+
+def follow_all() -> int:
+    """Prints how many recordings are schedules of what their tasks call, and why the others aren't."""
+    found: Counter[str] = Counter()
+    for file in sorted(it for kernel in (".", "6.12", "7.3") for it in (FOLDER / "recordings" / kernel).glob("*.bin.xz")):
+        name = file.relative_to(FOLDER).as_posix()
+        if file.name.split(".")[0] not in NOT_FOLLOWED:
+            found.update(how_followed(run, rules_of(name)) for run in recordings(file))
+            print(f"{name}: {dict(found)}", flush=True)
+    return 1 if found["NOT"] or not found["yes"] else 0
+
+
+def how_followed(run: Recording, rules: str) -> str:
+    if is_killed(run) or any(it.kind in ("grow", "shrink") for it in run):
+        return "a kill or a resize"
+    error = Follower(run, rules, batch_of(run)).error()
+    if error is not None:
+        return "yes" if error == error_at_rest(run) else "NOT"
+    notes = placed(run, machine_of(rules)).notes
+    return next((it for it in (EARLY, LATE) if it in notes), "NOT")
 
 
 # schedules as recordings
@@ -425,6 +456,8 @@ def planted() -> Iterator[tuple[str, bool]]:
 
 
 def main() -> int:
+    if sys.argv[1:]:
+        return follow_all() if sys.argv[1:] == ["--all"] else sys.exit("usage: test_orders.py [--all]")
     tried = [it for check in (same_endings, followed, accepted, same_without_keeping, same_apart, promises) for it in check(RIGHT)]
     tried += planted()
     wrong = [what for what, is_so in tried if not is_so]
