@@ -456,8 +456,11 @@ def planted() -> Iterator[tuple[str, bool]]:
 
 
 def main() -> int:
+    if sys.argv[1:] == ["--all"]:
+        return follow_all()
     if sys.argv[1:]:
-        return follow_all() if sys.argv[1:] == ["--all"] else sys.exit("usage: test_orders.py [--all]")
+        print("usage: test_orders.py [--all]", file=sys.stderr)
+        return 2
     tried = [it for check in (same_endings, followed, accepted, same_without_keeping, same_apart, promises) for it in check(RIGHT)]
     tried += planted()
     wrong = [what for what, is_so in tried if not is_so]
