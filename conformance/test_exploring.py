@@ -56,7 +56,8 @@ ROWS = (
     Row("a promise is kept", PROMISED, (), 1, ("served, in every schedule",)),
     Row("a promise is broken", PROMISED, ("--denials", "1"), 0, ("can end in SIGBUS, refused after", "  2  SIGBUS")),
     Row("a limit of states", COMMIT, ("--states", "5"), 3, ("6 states", "not all: there are more", "in what was searched")),
-    Row("what is found before a limit counts", LONGER, ("--denials", "1", "--states", "2000"), 0, ("not all: there are more", "in what was searched", "can end in SIGBUS")),
+    Row("what is found before a limit counts", LONGER, ("--denials", "1", "--states", "2000"), 0,
+        ("not all: there are more", "in what was searched", "can end in SIGBUS")),
     Row("6.1 gives back the quota", LEAK, ("--linux", "6.1"), 1, ("right at the end",)),
 )
 
@@ -90,6 +91,14 @@ BAD = (
     (b"pool \xff\n", "is not a text"),
 )
 
+WORDS = (
+    (("/nowhere",), "/nowhere: No such file"),
+    ((".",), "Is a directory"),
+    (("--linux", "5.4", EXAMPLE), "invalid choice: '5.4'"),
+    (("--denials", "x", EXAMPLE), "'x' is not a number"),
+    ((EXAMPLE, "--trace", "/nowhere/x"), "/nowhere/x: No such file"),
+)
+
 
 def rows() -> Iterator[tuple[str, object]]:
     for it in ROWS:
@@ -102,8 +111,7 @@ def bad() -> Iterator[tuple[str, object]]:
         ran = run("-", read=text)
         is_one = ran.err.startswith("kernel: ") and ran.err.count("\n") == 1
         yield f"bad input: {says}", ran.status == 2 and is_one and says in ran.err and not ran.out or ran
-    for words, says in ((("/nowhere",), "/nowhere: No such file"), ((".",), "Is a directory"), (("--linux", "5.4", EXAMPLE), "invalid choice: '5.4'"),
-                        (("--denials", "x", EXAMPLE), "'x' is not a number"), ((EXAMPLE, "--trace", "/nowhere/x"), "/nowhere/x: No such file")):
+    for words, says in WORDS:
         ran = run(*words)
         yield f"bad words: {' '.join(words)}", ran.status == 2 and says in ran.err and "Traceback" not in ran.err or ran
 
@@ -117,7 +125,8 @@ def written() -> Iterator[tuple[str, object]]:
         outcomes = PROGRAM(lines)[: len(lines) - 1]
         beside = [it.partition("| ")[2] for it in ran.out.splitlines() if " | " in it][1:]
         made = [row for it in beside if it for row in it.split("; ")]
-        yield "the program makes the rows that are printed", made == [f"{line}: {it}" for line, it in zip(lines[1:], outcomes)] or (made, outcomes)
+        wanted = [f"{line}: {it}" for line, it in zip(lines[1:], outcomes)]
+        yield "the program makes the rows that are printed", made == wanted or (made, wanted)
         checked = subprocess.run([CHECK, "--jobs", "1", "--rules", "BDFNPQSTU", recorded], capture_output=True, text=True, check=False)
         yield "the recording is whole by the rules", checked.stdout.endswith("recordings 1, whole 1\n") or checked
         alone = subprocess.run([CHECK, "--jobs", "1", recorded], capture_output=True, text=True, check=False)

@@ -46,8 +46,8 @@ machine, up to where the two part.
   ./kernel schedules examples/truncate-against-fault.script
   ./kernel schedules --linux 7.3 --denials 1 --trace parts.trace mine.script
   ./hugepool explain parts.trace"""
-AFTER = f"""SCRIPT says what each task calls, as for './hugepool find' (docs/EXPLORING.md); calls may wait for others. A fault mutex table has
-{SLOTS} slots here, whatever the script has. A page is promised to touches that begin after a map of it with reservation has returned,
+AFTER = f"""SCRIPT says what each task calls, as for './hugepool find' (docs/EXPLORING.md); calls may wait for others. A fault mutex table
+has {SLOTS} slots here, whatever the script has. A page is promised to touches that begin after a map of it with reservation has returned,
 and before a punch or a truncation of it begins.
 
 Status: 0 something goes wrong in some schedule; 1 in none; 2 could not run; 3 nothing wrong in --states states, and there are more.
@@ -63,10 +63,11 @@ def natural(word: str) -> int:
 def add_words(to: argparse.ArgumentParser) -> None:
     to.add_argument("script", type=Path, metavar="SCRIPT", help="a file with a script; '-' is standard input")
     to.add_argument("--linux", choices=VERSIONS, default="6.1", help="by the rules of this version (6.1)")
-    to.add_argument("--denials", type=natural, default=0, metavar="N", help="at most N allocations for changes, pages and deletions fail (0)")
+    to.add_argument("--denials", type=natural, default=0, metavar="N",
+                    help="at most N allocations of changes, pages and deletions fail (0)")
     to.add_argument("--states", type=natural, default=STATES, metavar="N", help=f"ends the search at more than N states ({STATES})")
-    to.add_argument("--trace", type=Path, metavar="FILE", help="writes the machine's events up to where the two part, which hugepool replays")
-    to.add_argument("--recording", type=Path, metavar="FILE", help="writes the schedule as a recording, which conformance/live/check.py reads")
+    to.add_argument("--trace", type=Path, metavar="FILE", help="writes the machine's events up to where the two part, for hugepool replay")
+    to.add_argument("--recording", type=Path, metavar="FILE", help="writes the schedule as a recording, for conformance/live/check.py")
 
 
 # scripts
@@ -181,7 +182,8 @@ def steps(number: int) -> str:
 
 def summary(options: argparse.Namespace, found: Found) -> Iterator[str]:
     rules, _ = VERSIONS[options.linux]
-    failing = {0: "no allocation fails", 1: "at most 1 allocation fails"}.get(options.denials, f"at most {options.denials} allocations fail")
+    few = {0: "no allocation fails", 1: "at most 1 allocation fails"}
+    failing = few.get(options.denials, f"at most {options.denials} allocations fail")
     yield f"Linux {options.linux}, by its rules {' '.join(sorted(rules))}; {SLOTS} slots; {failing}"
     yield f"{found.states} states, {found.rests} of them at rest{'' if found.is_whole else '; not all: there are more'}"
     errors = sorted(it for it in found.errors if it)

@@ -221,8 +221,8 @@ class Steps(Rows):
         return moved("raise") if call.is_denied or not call.removed else outcome
 
     def punch_raise(self, call: Call) -> Outcome:
-        """An index that stays, or a page without one, is used once more first: its frame gives that back. Where the quota refuses that of an
-        index that stays, the count isn't raised."""
+        """An index that stays, or a page without one, is used once more first: its frame gives that back. Where the quota refuses that
+        of an index that stays, the count isn't raised."""
         asks = self.has("Q") and self.quota is not None and not call.has_put
         call.has_put = asks and not (call.is_denied and self.is_beyond_quota(1))
         if call.has_put:

@@ -114,7 +114,8 @@ class Packing:
             return About(made, True, task.is_dead, None, None, False, False)
         slot = run.machine.slot_of(call.file, call.index)
         wants = call.phase == "want" and call.table in ("touch", "alloc")
-        return About(made, False, False, slot if holds_slot(call) else None, slot if wants else None, reads_others(call), run.is_deniable(call))
+        held, wanted = (slot if it else None for it in (holds_slot(call), wants))
+        return About(made, False, False, held, wanted, reads_others(call), run.is_deniable(call))
 
     def file(self, machine: Steps, at: int) -> tuple:
         it = machine.files[at]

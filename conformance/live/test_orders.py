@@ -25,7 +25,7 @@ sys.path.append(str(TOP / "conformance"))
 import every  # noqa: E402
 import schedules  # noqa: E402
 from events import Attempt, placed  # noqa: E402
-from following import Follower  # noqa: E402
+from following import Follower, script_of  # noqa: E402
 from kernel_steps import Steps  # noqa: E402
 from linux_rows import BATCH, machine_of  # noqa: E402
 from machine import LIMIT, Call, Outcome, Task, moved  # noqa: E402
@@ -126,7 +126,7 @@ def same_endings(tried: Tried) -> Iterator[tuple[str, bool]]:
     yield f"{len(searched)} searches of {len(texts())} scripts", len(searched) >= 36
     for number, (script, denials, wanted) in enumerate(searched):
         found = tried.search(tried.begin(script, "", BATCH, denials), 10 * MOST).run(lambda found, left: None)
-        yield f"search {number} of the machine's schedules, {denials} denied: the endings are those of the other search", found.endings == wanted
+        yield f"search {number} by the machine's rows, {denials} denied: it ends where the other one does", found.endings == wanted
         yield f"search {number}: no count is wrong, and no promised touch is refused", set(found.errors) == {0} and found.refused is None
 
 
@@ -173,6 +173,16 @@ def followed(tried: Tried) -> Iterator[tuple[str, bool]]:
             else:
                 yield f"{name} #{number} is a schedule of what its tasks call", error == error_at_rest(run)
     yield f"of few recordings ({early}) a fault finds its translation gone early", early <= 10
+
+
+def lost(tried: Tried) -> Iterator[tuple[str, bool]]:
+    """The calls of each smallest recording that ends with a wrong count have a schedule that ends with it."""
+    losses = [(name, run) for name in names() if name.startswith("smallest/") for run in recorded(name) if error_at_rest(run)]
+    yield f"there are {len(losses)} losses", len(losses) == 5
+    for name, run in losses:
+        denials = sum(it.kind in ("change_refused", "place_refused", "delete_refused") for it in run)
+        found = tried.search(tried.begin(script_of(run), rules_of(name), batch_of(run), denials), MOST).run(lambda found, left: None)
+        yield f"{name}: its calls can lose the count", found.is_whole and error_at_rest(run) in found.errors
 
 
 # recordings with resizes, and of an earlier form of the log
@@ -292,7 +302,8 @@ PROMISES = (
     ("script 1 2 64 2\nbegin 1 mapn 0 0 1\nbegin 1 store 0 1\nbegin 2 map 0 0 1\nafter 1\nbegin 2 alloc 1 0 1\nbegin 2 load 0\n", 1, True),
     ("script 1 2 64 2\nbegin 1 mapn 0 0 1\nbegin 1 store 0 1\nbegin 2 map 0 0 1\nafter 1\nbegin 2 alloc 1 0 1\nbegin 2 load 0\n", 0, False),
     # a punch ends the promise
-    ("script 1 2 64 2\nbegin 1 map 0 0 1\nbegin 1 store 0 1\nbegin 1 punch 0 0 1\nafter 1\nbegin 2 alloc 1 0 1\nafter 2\nbegin 1 store 0 1\n", 0, False),
+    ("script 1 2 64 2\nbegin 1 map 0 0 1\nbegin 1 store 0 1\nbegin 1 punch 0 0 1\nafter 1\nbegin 2 alloc 1 0 1\n"
+     "after 2\nbegin 1 store 0 1\n", 0, False),
     # what is promised once a touch is at work isn't promised to it
     (MEANWHILE, 0, False),
     # without a reservation nothing is promised
@@ -422,7 +433,7 @@ Check = Callable[[Tried], Iterator[tuple[str, bool]]]
 # what is wrong, and the checks that have to notice
 PLANTED: tuple[tuple[Tried, tuple[Check, ...]], ...] = (
     (Tried(BacksOutNothing), (followed,)),
-    (Tried(AlwaysRaises), (followed,)),
+    (Tried(AlwaysRaises), (followed, lost)),
     (Tried(FreesAtOnce), (followed,)),
     (Tried(EndsWhereDenied), (followed,)),
     (Tried(HoldsNothing), (followed,)),
@@ -433,7 +444,7 @@ PLANTED: tuple[tuple[Tried, tuple[Check, ...]], ...] = (
     (Tried(PromisesMeanwhile), (promises, same_endings)),
     (Tried(PromisesNothing), (promises,)),
     (Tried(DeniesNothing), (followed, promises, same_endings)),
-    (Tried(TakesTogether), (same_apart,)),
+    (Tried(TakesTogether), (same_apart, lost)),
     (Tried(search=ForgetsCounts), (same_endings, same_without_keeping)),
     (Tried(search=WaitsForNobody), (same_without_keeping,)),
     (Tried(search=StopsEarly), (same_endings, same_without_keeping)),
@@ -461,7 +472,7 @@ def main() -> int:
     if sys.argv[1:]:
         print("usage: test_orders.py [--all]", file=sys.stderr)
         return 2
-    tried = [it for check in (same_endings, followed, accepted, same_without_keeping, same_apart, promises) for it in check(RIGHT)]
+    tried = [it for check in (same_endings, followed, lost, accepted, same_without_keeping, same_apart, promises) for it in check(RIGHT)]
     tried += planted()
     wrong = [what for what, is_so in tried if not is_so]
     print("".join(f"  not so: {it}\n" for it in wrong), end="")
