@@ -21,6 +21,8 @@ REFUSED = ("noframe", "noquota")
 AGAIN = "again"
 # phases of a page that is made in which the call still reads what it lacked
 LACKING = ("changed", "taken", "settle", "committed", "restore", "judged", "back", "abort")
+# phases of a touch in which it may yet be refused what was promised
+ASKING = ("want", "locked", "missing", "changed")
 
 
 class Steps(Rows):
@@ -67,6 +69,8 @@ class Steps(Rows):
             self.promise(call)
         if outcome.kind == "moved" and call.table in ("touch", "alloc") and call.phase not in LACKING:
             call.missing = call.added = call.removed = 0
+        if call is not None and call.phase not in ASKING:
+            call.promise = None
         return outcome
 
     def promise(self, call: Call) -> None:
