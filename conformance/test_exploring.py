@@ -56,7 +56,7 @@ ROWS = (
     Row("a promise is kept", PROMISED, (), 1, ("served, in every schedule",)),
     Row("a promise is broken", PROMISED, ("--denials", "1"), 0, ("can end in SIGBUS, refused after", "  2  SIGBUS")),
     Row("a limit of states", COMMIT, ("--states", "5"), 3, ("6 states", "not all: there are more", "in what was searched")),
-    Row("what is found before a limit counts", LONGER, ("--denials", "1", "--states", "2000"), 0,
+    Row("what is found before a limit counts", LONGER, ("--denials", "1", "--states", "2500"), 0,
         ("not all: there are more", "in what was searched", "can end in SIGBUS")),
     Row("6.1 gives back the quota", LEAK, ("--linux", "6.1"), 1, ("right at the end",)),
 )
