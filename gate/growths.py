@@ -68,6 +68,7 @@ BROUGHT = {
     **{it: ["store of 1: out of memory\n", "store of 2: out of memory\n", "gate: no second thread\n"] for it in "gw"},
 }
 RACED = re.compile(r"run \d+ closed entries \d+ free \d+ resv \d+")
+LATE = re.compile(r"run 0 late entries \d+ free \d+ resv \d+\n")
 
 
 class Told(NamedTuple):
@@ -236,10 +237,17 @@ def is_whole(case: Case, right: Told, told: Told) -> bool:
     return (told.status, told.err) == (right.status, right.err) and case.agrees(told.out, right.out, True)
 
 
+def is_late(case: Case, told: Told) -> bool:
+    """Whether a race says that a call waited for one of a task whose thread wasn't made."""
+    return case.waits and (told.status, told.err) == (1, "") and bool(LATE.fullmatch(told.out))
+
+
 def fault(case: Case, right: Told, told: Told) -> str | None:
     """What is wrong with a run beside the right one, if anything is."""
     if len(told.faults) > 1:
         return f"more than one call failed: {told.faults}"
+    if told.faults in ("m", "t") and is_late(case, told):
+        return None
     if told.faults in FAILED and not (told.faults == "m" and is_whole(case, right, told)):
         # (without memory for the words no command is known)
         if told.status not in ({1, case.status} if told.faults == "m" else {case.status}) or told.err != FAILED[told.faults]:
@@ -247,8 +255,7 @@ def fault(case: Case, right: Told, told: Told) -> str | None:
         is_short = case.agrees(told.out, right.out, False) and (told.faults == "m" or told.out != right.out)
         return None if is_short else f"its output is no front of the right one: {told.out[-100:]!r}"
     if told.faults == "t" and case.waits:
-        is_so = (told.status, told.out, told.err) == (1, "", FAILED["m"])
-        return None if is_so else f"it ended with {told.status} and {told.err!r} without a thread"
+        return f"it ended with {told.status} and {told.err!r} without a thread"
     if (told.status, told.err) != (right.status, right.err):
         return f"status {told.status}, and on standard error {told.err!r}, though nothing failed"
     return None if case.agrees(told.out, right.out, True) else f"its output isn't right: {told.out[-100:]!r}"

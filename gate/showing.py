@@ -9,6 +9,7 @@ be said (reasons.py).
 """
 from __future__ import annotations
 
+import contextlib
 import os
 import pty
 import re
@@ -118,8 +119,10 @@ def do_races_differ(script: str) -> bool:
 def shown_of(ran: subprocess.Popen, read: str, ours: int, theirs: int) -> str:
     """Gives a program its input, and returns what the terminal of these two ends gets of it."""
     os.close(theirs)
-    ran.stdin.write(read.encode())
-    ran.stdin.close()
+    # (a program that asks for no input may have ended)
+    with contextlib.suppress(BrokenPipeError):
+        ran.stdin.write(read.encode())
+        ran.stdin.close()
     shown = b""
     try:
         while piece := os.read(ours, 65_536):
