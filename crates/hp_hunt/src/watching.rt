@@ -172,7 +172,7 @@ impl Watches {
         &self.calls
     }
 
-    /// One moment more: this event came, with this outcome, and led to that core.
+    /// One moment more: this event came, with this outcome, and led to that core. Without memory nothing is known any more.
     #[inline(always)]
     pub fn see(&mut self, event: &Event, outcome: &Outcome, core: &Core) -> Result<(), AllocError>
         ensures { OnOk result ((conditions : List Condition) (before : List Moment) → AllKnow conditions (known_of self.old) before

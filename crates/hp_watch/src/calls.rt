@@ -1,5 +1,5 @@
 //! Which calls tasks have begun, and with what their calls end.
-ghost use Rattle.std.specs.Prelude.{◌≡◌, ◌&&◌, ◌<◌, ℕ, false, List, [], ◌∷◌, IfSome, OnOk, None, length, slice_index_or};
+ghost use Rattle.std.specs.Prelude.{◌≡◌, ◌&&◌, ◌<◌, ℕ, false, List, [], ◌∷◌, IfSome, OnErr, OnOk, None, length, slice_index_or};
 ghost use Rattle.hp_core.specs.State.{CoreState};
 ghost use Rattle.hp_watch.specs.Calls.{AreCalls, calls_of, ended_by, is_begin, is_begun};
 ghost use Rattle.hp_watch.specs.Moments.{Moment};
@@ -87,7 +87,7 @@ impl Calls {
     /// Makes room for those of the task.
     fn make_room(&mut self, task: Task) -> Result<(), AllocError>
         ensures there { OnOk result (task < length self.new.tasks.items) }
-        ensures kept { OnOk result ((t : ℕ) → calls_of self.new.tasks.items t ≡ calls_of self.old.tasks.items t) }
+        ensures kept { (t : ℕ) → calls_of self.new.tasks.items t ≡ calls_of self.old.tasks.items t }
     {
         let place = task.number() as usize;
         if self.tasks.len() <= place {
@@ -96,10 +96,11 @@ impl Calls {
         Ok(())
     }
 
-    /// One moment more: this event came, with this outcome.
+    /// One moment more: this event came, with this outcome. Without memory nothing that is known changes.
     pub fn see(&mut self, event: &Event, outcome: &Outcome) -> Result<(), AllocError>
-        ensures { OnOk result ((before : List Moment) (core : CoreState) → AreCalls self.old.tasks.items before
+        ensures knows { OnOk result ((before : List Moment) (core : CoreState) → AreCalls self.old.tasks.items before
             → AreCalls self.new.tasks.items (record { event = event.now; outcome = outcome.now; core = core } ∷ before)) }
+        ensures err { OnErr result ((t : ℕ) → calls_of self.new.tasks.items t ≡ calls_of self.old.tasks.items t) }
     {
         let Some(begun) = begun_by(event, outcome) else {
             return Ok(());

@@ -12,7 +12,7 @@ returns-in_ok-push-clause-knows c = λ old before row notes.
     record {
       reached = c.is_reached.ensures;
       phases = c.note_phase.ensures.phases;
-      calls = c.in_ok-see.ensures before c.args.core.now notes.calls;
+      calls = c.in_ok-see.ensures.knows before c.args.core.now notes.calls;
       ended = c.in_ok-push.ensures.items ∙ ap (λ (xs : List EndedCall). xs ++ c.in-Some.ended ∷ []) notes.ended
           ∙ ap (λ (xs : List EndedCall). ended_in before ++ xs) (sym (c.in-Some.ensures.some before notes.calls));
       held = held_more old c.args.core.now c.args.event.now c.args.outcome.now c.args.self.now.phases.items c.args.self.now.held.items
@@ -29,7 +29,7 @@ returns-in_default-clause-knows c = λ old before row notes.
     record {
       reached = c.is_reached.ensures;
       phases = c.note_phase.ensures.phases;
-      calls = c.in_ok-see.ensures before c.args.core.now notes.calls;
+      calls = c.in_ok-see.ensures.knows before c.args.core.now notes.calls;
       ended = notes.ended ∙ sym (append-nil (ended_in before))
           ∙ ap (λ (xs : List EndedCall). ended_in before ++ xs) (sym (c.ended_by-ended.ensures.none c.in_default.is before));
       held = held_more old c.args.core.now c.args.event.now c.args.outcome.now c.args.self.now.phases.items c.args.self.now.held.items
