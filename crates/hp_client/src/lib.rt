@@ -23,6 +23,6 @@ pub use driver::Driver;
 pub use fault::ClientFault;
 pub use heard::note_calls;
 pub use pool_driver::PoolDriver;
-pub use rounds::Asked;
+pub use rounds::{Asked, ask};
 pub use table::Workload;
 pub use work::{Report, config_of, run_workload, workload_named};

@@ -149,9 +149,9 @@ fn tell_answers(asked: &[Asked], answers: &mut Vec<Answer>)
     }
 }
 
-// The calls as they are asked: none has ended.
+/// The calls as they are asked, in the list's order: none has ended.
 #[tactic(auto, unfolding(crate::specs::Rounds::asked_of))]
-fn ask(alloc: Global, calls: &[(Task, Op)]) -> Result<Vec<Asked>, AllocError>
+pub fn ask(alloc: Global, calls: &[(Task, Op)]) -> Result<Vec<Asked>, AllocError>
     ensures asked { IfOk result (λ asked. asked.items ≡ asked_of calls.now) }
     ensures each { IfOk result (λ asked. length asked.items ≡ length calls.now) }
 {

@@ -3,17 +3,17 @@ ghost use Rattle.std.specs.Prelude.{◌≡◌, ◌≤◌, ℕ, true, IfOk, OnOk,
 ghost use Rattle.hp_base.specs.declared.event.Event.TheVariants.{Begin};
 ghost use Rattle.hp_machine.specs.declared.outcome.Outcome.TheVariants.{Begun};
 ghost use Rattle.hp_core.specs.Runs.{Row};
-ghost use Rattle.hp_client.specs.Rounds.{Advance, AreEnded, Begins, Round, Turn, Turns, asked_of};
+ghost use Rattle.hp_client.specs.Rounds.{Advance, AreEnded, Begins, Round, Turn, Turns};
 ghost use Rattle.hp_pool_commands.specs.Working.{IsTraced};
 
 use hp_base::{Answer, Event, Op, Task};
 use hp_client::{
-    Asked, ClientFault, Driver, Report, Workload, config_of, note_calls, run_workload,
+    Asked, ClientFault, Driver, Report, Workload, ask, config_of, note_calls, run_workload,
 };
 use hp_core::{Outcome, Tally};
 use hp_format::{Draft, Reason, Unadded};
 use hp_text::{MOST_EVENTS, Trace};
-use std::alloc::{AllocError, Global};
+use std::alloc::Global;
 
 /// A driver of a pool that it has to itself, all of whose events it keeps.
 #[derive(Drop)]
@@ -119,21 +119,6 @@ fn answers_of(alloc: Global, asked: &[Asked]) -> Result<Vec<Answer>, ClientFault
         };
     }
     Ok(given)
-}
-
-/// The calls as they are asked: none has ended.
-#[tactic(auto, unfolding(hp_client::specs::Rounds::asked_of))]
-fn ask(alloc: Global, calls: &[(Task, Op)]) -> Result<Vec<Asked>, AllocError>
-    ensures asked { IfOk result (λ asked. asked.items ≡ asked_of calls.now) }
-    ensures each { IfOk result (λ asked. length asked.items ≡ length calls.now) }
-{
-    calls
-        .iter()
-        .map(|call| Asked {
-            task: call.0,
-            answer: None,
-        })
-        .collect(alloc)
 }
 
 /// Makes a round, and gives the answers.
