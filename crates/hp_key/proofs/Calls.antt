@@ -121,7 +121,8 @@ answer_back answer.BadRange = refl
 answer_back answer.NotMapped = refl
 answer_back answer.NoAddress = refl
 
-own_answer : Own answer_words
+-- an answer is told by its words
+pub own_answer : Own answer_words
 own_answer =
     own_back {words = answer_words} (λ (a : Answer). (answer_number a, answer_value a)) answer_named answer_back
     (tells_then answer_number (tells_at answer_value tells_wide))

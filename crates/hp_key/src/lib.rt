@@ -17,7 +17,7 @@ ghost use Rattle.hp_core.specs.State.{CoreState, as_state};
 ghost use Rattle.hp_key.specs.Key.{key_words};
 
 pub use making::key;
-pub use numbers::push_wide;
+pub use numbers::{push_answer, push_wide};
 
 /// Two cores with equal keys are one state of the machine: frames, words, files, mappings, translations, holders, lives, calls and counts
 /// are the same. So whatever can happen to the one can happen to the other.

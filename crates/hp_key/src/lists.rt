@@ -12,7 +12,7 @@ ghost use Rattle.hp_key.specs.Key.{space_words, task_words};
 ghost use Rattle.hp_key.specs.Numbers.{counted, life_number, maybe, number_words};
 
 use crate::carried::{Carried, carried_by};
-use crate::numbers::{push_access, push_answer, push_change, push_maybe, push_wide};
+use crate::numbers::{push_access, push_change, push_maybe, push_pending_answer, push_wide};
 use hp_base::{Frame, Index, Mapping, VPNS, Vpn};
 use hp_chunks::PageCache;
 use hp_core::TaskState;
@@ -275,7 +275,7 @@ fn push_carried(words: &mut Vec<u32>, carried: &Carried) -> Result<(), AllocErro
     push_access(words, carried.access)?;
     push_change(words, carried.change)?;
     push_maybe(words, carried.frame.map(|frame| frame.number()))?;
-    push_answer(words, carried.answer)?;
+    push_pending_answer(words, carried.answer)?;
     Ok(())
 }
 

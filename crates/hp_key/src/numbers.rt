@@ -96,16 +96,27 @@ fn answer_value(answer: &Answer) -> u64
     }
 }
 
+/// An answer.
+pub fn push_answer(words: &mut Vec<u32>, answer: Answer) -> Result<(), AllocError>
+    ensures { OnOk result (words.new.items ≡ words.old.items ++ answer_words answer) }
+{
+    words.push(answer_number(&answer))?;
+    push_wide(words, answer_value(&answer))?;
+    Ok(())
+}
+
 /// An answer that a call may have, and is yet to give.
-pub(crate) fn push_answer(words: &mut Vec<u32>, answer: Option<Answer>) -> Result<(), AllocError>
+pub(crate) fn push_pending_answer(
+    words: &mut Vec<u32>,
+    answer: Option<Answer>,
+) -> Result<(), AllocError>
     ensures { OnOk result (words.new.items ≡ words.old.items ++ maybe answer_words answer) }
 {
     match answer {
         None => words.push(0)?,
         Some(answer) => {
             words.push(1)?;
-            words.push(answer_number(&answer))?;
-            push_wide(words, answer_value(&answer))?;
+            push_answer(words, answer)?;
         }
     }
     Ok(())
