@@ -1,5 +1,5 @@
 -- The endings of runs.
-use Rattle.std.specs.Prelude.{◌≡◌, ◌<◌, ◌⊎◌, ℕ, Bool, true, false, List, Contains, Option, None, Some, if◌then◌else◌}
+use Rattle.std.specs.Prelude.{◌≡◌, ◌<◌, ◌⊎◌, ℕ, Bool, true, false, List, Contains, Option, Some, is_some}
 use Rattle.hp_layers.specs.declared.ending.EndingTable.{EndingTable}
 use Rattle.hp_layers.specs.declared.ending.EndingTable.TheVariants.{Whole, Cut}
 use Rattle.hp_layers.specs.declared.limits.Limits.{Limits}
@@ -46,24 +46,18 @@ AreShortest {S} turn ending first table = (s : S) → Contains table s → IsSho
 
 -- what the endings say
 unfoldable pub AreRight : {S E : Type 0} → (turn : S → S → Type 0) → (ending : S → Option E) → (first : S) → EndingTable S → Type 0
-AreRight turn ending first (Whole states) =
-    ((n : ℕ) → HasEndings turn ending first states.items n) × AreShortest turn ending first states.items
-AreRight turn ending first (Cut states turns) =
-    ((n : ℕ) → n < turns → HasEndings turn ending first states.items n) × AreShortest turn ending first states.items
+AreRight turn ending first (Whole counts) =
+    ((n : ℕ) → HasEndings turn ending first counts.states.items n) × AreShortest turn ending first counts.states.items
+AreRight turn ending first (Cut counts turns) =
+    ((n : ℕ) → n < turns → HasEndings turn ending first counts.states.items n) × AreShortest turn ending first counts.states.items
 
 -- endings are cut where so many turns are made as the limit, or where there are too many states
 unfoldable pub AreCutAtLimits : {S K : Type 0} → (eq : K → K → Bool) → (key_of : S → K) → (turn : S → S → Type 0) → (first : S) → Limits
     → EndingTable S → Type 0
-AreCutAtLimits eq key_of turn first limits (Whole states) = Unit {0}
-AreCutAtLimits eq key_of turn first limits (Cut states turns) =
+AreCutAtLimits eq key_of turn first limits (Whole counts) = Unit {0}
+AreCutAtLimits eq key_of turn first limits (Cut counts turns) =
     (turns ≡ limits.turns) ⊎ IsCrowded eq key_of turn first limits.states turns
 
--- 1 where the ending is that one, or else 0
-abbrev pub ends_so : {E : Type 0} → (eq : E → E → Bool) → Option E → E → ℕ
-ends_so eq None e = 0
-ends_so eq (Some d) e = if eq d e then 1 else 0
-
--- whether it is equal to that one
-abbrev pub ends_in : {E : Type 0} → (eq : E → E → Bool) → Option E → E → Bool
-ends_in eq None e = false
-ends_in eq (Some d) e = eq d e
+-- whether the ending has a place
+abbrev pub has_place : {E : Type 0} → (place : E → Option ℕ) → E → Bool
+has_place place e = is_some (place e)

@@ -1,80 +1,119 @@
-//! All endings of runs, with a shortest run for each.
-ghost use Rattle.std.specs.Prelude.{◌≡◌, IfOk, OnOk, Option};
-ghost use Rattle.std.specs.HashSet.{contains};
-ghost use Rattle.hp_layers.specs.Ended.{AreCutAtLimits, AreRight, AreTaken, EndingsStand, EndsAlike, TakesOne};
+//! All endings of runs: of each a shortest run, and how many runs end so.
+ghost use Rattle.std.specs.Prelude.{◌≡◌, [], IfOk, OnOk, Option, Some, length};
+ghost use Rattle.std.specs.HashMap.{get};
+ghost use Rattle.hp_layers.specs.Ended.{AreCutAtLimits, AreRight, AreTaken, EndsAlike, TakesOne, has_place};
+ghost use Rattle.hp_layers.specs.Named.{AddsSeat, AreAllTold, AreEach, AreNamed, IsIndexed, TakesWays};
 
-use crate::layer::next_layer;
+use crate::counting::{RunCounts, add_ways, next_counts};
 use crate::limits::Limits;
 use crate::progress::Progress;
 use crate::turns::Turns;
 use std::alloc::{AllocError, Global};
-use std::collections::HashSet;
+use std::collections::HashMap;
 use std::hash::Hash;
 
-/// A system whose runs end in some way.
+/// A system whose runs end in some way, and are counted.
 pub trait Ends: Turns {
     /// How a run ends.
     type Ending: Eq + Hash + Drop;
 
+    /// What tells the turns from a state apart.
+    type Name;
+
     // how the state ends, if no turn comes after it
     ghost ending_of: { Self → Self.State → Option Self.Ending };
+
+    // one turn of that name leads from the one state to the other
+    ghost step: { Self → Self.State → Self.Name → Self.State → Type 0 };
 
     /// How the state ends, if no turn comes after it.
     fn ending(&self, alloc: Global, state: &Self::State) -> Result<Option<Self::Ending>, AllocError>
         ensures { IfOk result (λ ending. ending ≡ ending_of self.now state.now) };
 
+    /// The states behind the state, one for each turn. It is called once for each state of a layer.
+    fn each_after(&self, alloc: Global, state: &Self::State) -> Result<Vec<Self::State>, AllocError>
+        requires { Self.valid self.now state.now }
+        ensures { IfOk result (λ next. AreEach (step self.now) state.now next.items) };
+
     ghost ends_alike: { (m : Self) → EndsAlike Self.Ending.eq (Self.alike m) (ending_of m) };
+
+    ghost are_named: { (m : Self) → AreNamed (Self.turn m) (Self.alike m) (step m) };
 }
 
-/// Puts the state into the table, if its ending isn't there yet.
-fn take_ending<M: Ends>(
+/// Adds so many ways to the state's ending, if it has one. The state is put into the table, if its ending isn't there yet.
+fn take_way<M: Ends>(
     alloc: Global,
     system: &M,
-    seen: &mut HashSet<M::Ending>,
-    table: &mut Vec<M::State>,
+    places: &mut HashMap<M::Ending, usize>,
+    table: &mut RunCounts<M::State>,
     state: M::State,
+    more: u128,
 ) -> Result<(), AllocError>
-    requires stand { EndingsStand (M.ending_of system.now) (contains M.Ending.eq seen.old) table.old.items }
-    ensures stand { OnOk result (EndingsStand (M.ending_of system.now) (contains M.Ending.eq seen.new) table.new.items) }
-    ensures taken { OnOk result (TakesOne (M.ending_of system.now) (contains M.Ending.eq seen.old) (contains M.Ending.eq seen.new)
-        table.old.items state table.new.items) }
+    requires long { length table.old.ways.items ≡ length table.old.states.items }
+    requires indexed { IsIndexed M.Ending.eq (λ s e. M.ending_of system.now s ≡ Some e) (get M.Ending.eq places.old) table.old.states.items }
+    ensures long { OnOk result (length table.new.ways.items ≡ length table.new.states.items) }
+    ensures indexed { OnOk result
+        (IsIndexed M.Ending.eq (λ s e. M.ending_of system.now s ≡ Some e) (get M.Ending.eq places.new) table.new.states.items) }
+    ensures taken { OnOk result (TakesOne (M.ending_of system.now) (has_place (get M.Ending.eq places.old))
+        (has_place (get M.Ending.eq places.new)) table.old.states.items state table.new.states.items) }
+    ensures seat { OnOk result (AddsSeat (M.ending_of system.now state) (get M.Ending.eq places.old) (get M.Ending.eq places.new) more
+        table.old table.new) }
 {
     let Some(ending) = system.ending(alloc, &state)? else {
         return Ok(());
     };
-    if seen.insert(ending)? {
-        table.push(state)?;
-    }
+    add_ways(places, table, ending, state, more)?;
     Ok(())
 }
 
-/// Puts those of the states into the table whose endings aren't there yet.
-fn take_endings<M: Ends>(
+/// Adds the ways of a layer to the endings of its states.
+fn take_counts<M: Ends>(
     alloc: Global,
     system: &M,
-    seen: &mut HashSet<M::Ending>,
-    table: &mut Vec<M::State>,
-    states: Vec<M::State>,
+    places: &mut HashMap<M::Ending, usize>,
+    table: &mut RunCounts<M::State>,
+    layer: RunCounts<M::State>,
 ) -> Result<(), AllocError>
-    requires stand { EndingsStand (M.ending_of system.now) (contains M.Ending.eq seen.old) table.old.items }
-    ensures stand { OnOk result (EndingsStand (M.ending_of system.now) (contains M.Ending.eq seen.new) table.new.items) }
-    ensures taken { OnOk result (AreTaken (M.ending_of system.now) (contains M.Ending.eq seen.old) (contains M.Ending.eq seen.new)
-        table.old.items states.items table.new.items) }
+    requires layer { length layer.ways.items ≡ length layer.states.items }
+    requires long { length table.old.ways.items ≡ length table.old.states.items }
+    requires indexed { IsIndexed M.Ending.eq (λ s e. M.ending_of system.now s ≡ Some e) (get M.Ending.eq places.old) table.old.states.items }
+    ensures long { OnOk result (length table.new.ways.items ≡ length table.new.states.items) }
+    ensures indexed { OnOk result
+        (IsIndexed M.Ending.eq (λ s e. M.ending_of system.now s ≡ Some e) (get M.Ending.eq places.new) table.new.states.items) }
+    ensures taken { OnOk result (AreTaken (M.ending_of system.now) (has_place (get M.Ending.eq places.old))
+        (has_place (get M.Ending.eq places.new)) table.old.states.items layer.states.items table.new.states.items) }
+    ensures ways { OnOk result (TakesWays (M.ending_of system.now) (get M.Ending.eq places.old) (get M.Ending.eq places.new) layer
+        table.old table.new) }
 {
-    let mut left = states;
-    while let Some(state) = left.pop() {
-        take_ending(alloc, system, seen, table, state)?;
+    let RunCounts {
+        mut states,
+        mut ways,
+    } = layer;
+    while let Some(state) = states.pop() {
+        let more = ways.pop().unwrap();
+        take_way(alloc, system, places, table, state, more)?;
     }
     Ok(())
 }
 
-/// The endings that were found, each as a state that ends so and that is reached in the fewest turns.
+/// The endings that were found, each as a state that ends so and that is reached in the fewest turns, with how many runs end so.
 #[derive(Debug, Drop)]
 pub enum EndingTable<S> {
     /// Every ending of every run.
-    Whole(Vec<S>),
+    Whole(RunCounts<S>),
     /// The limits ran out: every ending of the runs of fewer turns than so many.
-    Cut { states: Vec<S>, turns: u32 },
+    Cut { counts: RunCounts<S>, turns: u32 },
+}
+
+/// No state yet.
+fn no_counts<S: Drop>(alloc: Global) -> RunCounts<S>
+    ensures states { result.states.items ≡ [] }
+    ensures ways { result.ways.items ≡ [] }
+{
+    RunCounts {
+        states: Vec::new(alloc),
+        ways: Vec::new(alloc),
+    }
 }
 
 /// The endings of all runs, in the order of their turns, up to the limits.
@@ -87,27 +126,29 @@ pub fn endings<M: Ends>(
 ) -> Result<EndingTable<M::State>, AllocError>
     requires { M.valid system.now first }
     ensures right { IfOk result (AreRight (M.turn system.now) (M.ending_of system.now) first) }
+    ensures counted { IfOk result (AreAllTold (M.step system.now) (M.ending_of system.now) first) }
     // It doesn't give up before.
     ensures cut { IfOk result (AreCutAtLimits M.Key.eq (M.key_of system.now) (M.turn system.now) first limits) }
 {
-    let mut seen = HashSet::new(alloc);
-    let mut states = Vec::new(alloc);
-    let mut layer = Vec::new(alloc);
-    layer.push(first)?;
+    let mut places = HashMap::new(alloc);
+    let mut counts = no_counts(alloc);
+    let mut layer = no_counts(alloc);
+    layer.states.push(first)?;
+    layer.ways.push(1)?;
     for turns in 0..limits.turns {
-        if layer.is_empty() {
-            return Ok(EndingTable::Whole(states));
+        if layer.states.is_empty() {
+            return Ok(EndingTable::Whole(counts));
         }
-        progress.layer(turns, layer.len());
-        let room = limits.states.saturating_sub(layer.len());
-        let next = next_layer(alloc, system, &layer, room)?;
-        take_endings(alloc, system, &mut seen, &mut states, layer)?;
+        progress.layer(turns, layer.states.len());
+        let room = limits.states.saturating_sub(layer.states.len());
+        let next = next_counts(alloc, system, &layer, room)?;
+        take_counts(alloc, system, &mut places, &mut counts, layer)?;
         let Some(next) = next else {
             let turns = turns + 1;
-            return Ok(EndingTable::Cut { states, turns });
+            return Ok(EndingTable::Cut { counts, turns });
         };
         layer = next;
     }
     let turns = limits.turns;
-    Ok(EndingTable::Cut { states, turns })
+    Ok(EndingTable::Cut { counts, turns })
 }

@@ -15,7 +15,7 @@ mod searching;
 mod turns;
 mod verdict;
 
-pub use counting::{Counts, RunCounts, count_runs};
+pub use counting::RunCounts;
 pub use ending::{EndingTable, Ends, endings};
 pub use limits::Limits;
 pub use progress::Progress;

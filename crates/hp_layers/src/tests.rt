@@ -1,9 +1,8 @@
 //! A counter that goes up to three.
-ghost use Rattle.std.specs.Prelude.{◌≡◌, ◌≤◌, refl};
+ghost use Rattle.std.specs.Prelude.{◌≡◌, ◌≤◌};
 ghost use Rattle.hp_layers.specs.Counted.{end_of, ends_alike_counts};
-ghost use Rattle.hp_layers.specs.Counted.{Goes, as_good_counts, same_count, same_ways_on, ways_on};
+ghost use Rattle.hp_layers.specs.Counted.{Goes, Steps, as_good_counts, named_counts, same_count};
 
-use crate::counting::{Counts, RunCounts, count_runs};
 use crate::ending::{EndingTable, Ends, endings};
 use crate::limits::Limits;
 use crate::progress::Progress;
@@ -56,10 +55,15 @@ impl Turns for Wanted {
     ghost same_key = { λ m. same_count };
 }
 
+// It goes up in two ways, which lead to one state.
 impl Ends for Wanted {
     type Ending = u32;
 
+    type Name = u32;
+
     ghost ending_of = { λ m s. end_of s };
+
+    ghost step = { λ m s name t. Steps s name t };
 
     fn ending(&self, alloc: Global, state: &u32) -> Result<Option<u32>, AllocError> {
         let _ = alloc;
@@ -69,13 +73,6 @@ impl Ends for Wanted {
         Ok(None)
     }
 
-    ghost ends_alike = { λ m. ends_alike_counts };
-}
-
-impl Counts for Wanted {
-    ghost ways = { λ m s n e. ways_on s n e };
-
-    // It goes up in two ways, which lead to one state.
     fn each_after(&self, alloc: Global, state: &u32) -> Result<Vec<u32>, AllocError> {
         let mut next = Vec::new(alloc);
         if *state >= 3 {
@@ -86,9 +83,9 @@ impl Counts for Wanted {
         Ok(next)
     }
 
-    ghost ends_now = { λ m s e. refl };
+    ghost ends_alike = { λ m. ends_alike_counts };
 
-    ghost same_ways = { λ m. same_ways_on };
+    ghost are_named = { λ m. named_counts };
 }
 
 /// How many layers were told, and the last of them.
@@ -144,12 +141,12 @@ fn limits_run_out(rt: HostRuntime) {
     assert!(rt; matches!(narrow, Ok((200, 1))));
 }
 
-/// The only ending that there is, if the table is whole and has one.
-fn only_ending(alloc: Global, limits: Limits) -> Result<Option<u32>, AllocError> {
+/// The only ending that there is, and in how many ways the counter comes there, if the table is whole and has one.
+fn only_ending(alloc: Global, limits: Limits) -> Result<Option<(u32, u128)>, AllocError> {
     let mut told = Told { layers: 0, last: 0 };
     match endings(alloc, &Wanted { count: 2 }, 0, limits, &mut told)? {
-        EndingTable::Whole(states) => Ok(if states.len() == 1 {
-            Some(states[0])
+        EndingTable::Whole(counts) => Ok(if counts.states.len() == 1 && counts.ways.len() == 1 {
+            Some((counts.states[0], counts.ways[0]))
         } else {
             None
         }),
@@ -164,41 +161,11 @@ fn ends(rt: HostRuntime) {
         states: 9,
     };
     let ended = only_ending(rt.alloc(), wide);
-    assert!(rt; matches!(ended, Ok(Some(3))));
+    assert!(rt; matches!(ended, Ok(Some((3, 8)))));
     let few_turns = Limits {
         turns: 2,
         states: 9,
     };
     let cut = only_ending(rt.alloc(), few_turns);
     assert!(rt; matches!(cut, Ok(None)));
-}
-
-/// In how many ways the counter comes to its end, if it has one end alone.
-fn only_count(alloc: Global, limits: Limits) -> Result<Option<u128>, AllocError> {
-    let mut told = Told { layers: 0, last: 0 };
-    let counted: Option<RunCounts<u32>> = count_runs(
-        alloc,
-        &Wanted { count: 2 },
-        0,
-        limits,
-        &mut told,
-    )?;
-    match counted {
-        Some(counts) => Ok(if counts.ways.len() == 1 {
-            Some(counts.ways[0])
-        } else {
-            None
-        }),
-        None => Ok(None),
-    }
-}
-
-#[test]
-fn counts_runs(rt: HostRuntime) {
-    let wide = Limits {
-        turns: 9,
-        states: 9,
-    };
-    let counted = only_count(rt.alloc(), wide);
-    assert!(rt; matches!(counted, Ok(Some(8))));
 }

@@ -1,46 +1,84 @@
-use Rattle.std.proofs.Common.{◌≡◌, ◌∙◌, ℕ, [], ap, subst, arith}
-use Rattle.std.specs.Prelude.{true}
+use Rattle.std.proofs.Common.{◌≡◌, ◌∙◌, [], List, refl, sym, ap, subst, arith}
+use Rattle.std.specs.Prelude.{Some}
 use Rattle.std.specs.HashMap.{get}
-use Rattle.std.specs.List.{sum_by}
 use Rattle.std.proofs.lemmas.Grind.{common_steps}
-use Rattle.std.proofs.lemmas.List.Sums.{sum_by_push}
-use Rattle.hp_layers.specs.Weighed.{weigh}
-use Rattle.hp_layers.proofs.Covering.{valid_before, valid_last, valid_on}
-use Rattle.hp_layers.proofs.Weighing.{agrees, more_ways, no_more_ways}
+use Rattle.std.proofs.lemmas.List.Elements.{Contains-get_or}
+use Rattle.hp_layers.specs.Layers.{IsCovered}
+use Rattle.hp_layers.specs.Named.{IsIndexed}
+use Rattle.hp_layers.proofs.Covering.{AddsMost, adds_all, adds_none, adds_one, covered_by, valid_before, valid_last, valid_on}
+use Rattle.hp_layers.proofs.Indexing.{have_one_place, indexed_more, indexed_within, keeps_none, keeps_on, placed, puts_keep, puts_some}
+use Rattle.hp_layers.proofs.Spreading.{adds_rest_all, adds_rest_more, adds_rest_none}
 use Rattle.hp_layers.proofs.counting.add_each.Goals as goal
+
+pub loop-state-init : goal.loop-state-init
+loop-state-init g c =
+    let m = c.args.system.now in
+    let place = get g.M.Key.PartialEq.eq c.args.places.now in
+    record {
+      left = c.requires.states;
+      valid = c.requires.valid;
+      long = c.requires.long;
+      indexed = c.requires.indexed;
+      kept = keeps_none place;
+      most = adds_none (g.M.Turns.alike m) c.args.counts.now.states.items c.args.states.items;
+      rest = adds_rest_none (g.M.Turns.key_of m) place c.args.states.items c.args.more c.args.counts.now.ways.items;
+    }
+
+pub add_ways-requires-clause-within : goal.add_ways-requires-clause-within
+add_ways-requires-clause-within g c =
+    let eq = g.M.Key.PartialEq.eq in
+    indexed_within eq (λ s k. g.M.Turns.key_of c.args.system.now s ≡ k) (get eq c.loop-state.places) c.loop-state.counts.states.items
+    c.loop-state.invariant.indexed
 
 pub loop-state-preserved : goal.loop-state-preserved
 loop-state-preserved g c =
     let m = c.args.system.now in
     let eq = g.M.Key.PartialEq.eq in
+    let laws = g.met.M.Key.Eq.laws in
     let key_of = g.M.Turns.key_of m in
     let valid = g.M.Turns.valid m in
+    let alike = g.M.Turns.alike m in
     let states = c.loop-state.counts.states.items in
-    let before = c.loop-state.invariant in
-    let own = valid_last valid c.loop-state.left.items c.pop.new.self.items c.in-Some.state c.in-Some.ensures.items before.left in
-    let added = c.in_ok-add_ways.ensures in
+    let state = c.in-Some.state in
+    let before = get eq c.loop-state.places in
+    let after = get eq c.add_ways.new.places in
+    let was = c.loop-state.invariant in
+    let own = valid_last valid c.loop-state.left.items c.pop.new.self.items state c.in-Some.ensures.items was.left in
+    let added = c.in_ok-add_ways.ensures.added in
+    let one = have_one_place eq c.loop-state.places.entries laws.congr in
+    let key : c.in_ok-key.key ≡ key_of state = c.in_ok-key.ensures in
+    let grows = puts_some eq before after c.in_ok-key.key states c.add_ways.new.counts.states.items state added.puts in
+    let keeps = puts_keep eq before after c.in_ok-key.key states c.add_ways.new.counts.states.items state one added.puts in
+    let valid_then = valid_on valid states c.add_ways.new.counts.states.items state was.valid own grows in
+    let indexed = indexed_more eq before after (λ s k. key_of s ≡ k) c.in_ok-key.key states state one (sym key) (λ h is. sym is ∙ sym key)
+    was.indexed c.add_ways.new.counts.states.items added.puts in
+    let at = sym (ap after key) ∙ added.is in
     record {
-      left = valid_before valid c.loop-state.left.items c.pop.new.self.items c.in-Some.state c.in-Some.ensures.items before.left;
-      valid = valid_on valid states c.add_ways.new.counts.states.items c.in-Some.state before.valid own added.added;
-      long = added.long;
-      within = added.within;
-      stand = added.stand (λ s k. eq (key_of s) k) (λ q h. subst (λ k. eq k q ≡ true) c.in_ok-key.ensures h) before.stand;
-      sum = λ n e. (
-          let f : _ → ℕ = λ t. g.M.Counts.ways m t n e in
-          let one = added.sum f
-          (agrees eq key_of valid (g.M.Turns.alike m) f (get eq c.loop-state.places) states c.in-Some.state c.in_ok-key.key
-          (g.met.M.Turns.same_key m) (λ x y a. g.met.M.Counts.same_ways m x y n e a) c.in_ok-key.ensures own before.valid before.within
-          before.stand) in
-          more_ways (weigh c.add_ways.new.counts.ways.items c.add_ways.new.counts.states.items f)
-          (weigh c.loop-state.counts.ways.items states f) c.args.more (f c.in-Some.state) (sum_by f c.pop.new.self.items)
-          (sum_by f c.loop-state.left.items) one
-          (ap (sum_by f) c.in-Some.ensures.items ∙ sum_by_push f c.pop.new.self.items c.in-Some.state)
-          ∙ before.sum n e);
+      left = valid_before valid c.loop-state.left.items c.pop.new.self.items state c.in-Some.ensures.items was.left;
+      valid = valid_then;
+      long = c.in_ok-add_ways.ensures.long;
+      indexed = indexed;
+      kept = keeps_on (get eq c.args.places.now) before after was.kept keeps;
+      most = adds_one alike c.args.counts.now.states.items c.args.states.items c.loop-state.left.items c.pop.new.self.items states
+          c.add_ways.new.counts.states.items state was.most c.in-Some.ensures.items grows
+          (covered_by alike c.add_ways.new.counts.states.items state _
+          (Contains-get_or c.add_ways.new.counts.states.items added.at state (indexed.stands (key_of state) added.at at).0)
+          (placed eq key_of valid alike after c.add_ways.new.counts.states.items state added.at state (g.met.M.Turns.same_key m) own valid_then
+          indexed at));
+      rest = adds_rest_more eq key_of before after c.args.states.items c.loop-state.left.items c.pop.new.self.items c.args.more
+          c.args.counts.now.ways.items c.loop-state.counts c.add_ways.new.counts c.in_ok-key.key state was.rest c.in-Some.ensures.items added
+          key keeps;
     }
 
-pub returns-clause-sum : goal.returns-clause-sum
-returns-clause-sum g c = λ n e. (
-    let f : _ → ℕ = λ t. g.M.Counts.ways c.args.system.now t n e in
+pub returns-clause-added : goal.returns-clause-added
+returns-clause-added g c =
     let none : c.loop-state.left.items ≡ [] = grind (arith, common_steps) in
-    no_more_ways (weigh c.loop-state.counts.ways.items c.loop-state.counts.states.items f) _ c.args.more (sum_by f c.loop-state.left.items)
-    (c.loop-state.invariant.sum n e) (ap (sum_by f) none))
+    adds_all (g.M.Turns.alike c.args.system.now) c.args.counts.now.states.items c.args.states.items c.loop-state.counts.states.items
+    (subst (λ (l : List _). AddsMost (g.M.Turns.alike c.args.system.now) c.args.counts.now.states.items c.args.states.items l
+    c.loop-state.counts.states.items) none c.loop-state.invariant.most)
+
+pub returns-clause-each : goal.returns-clause-each
+returns-clause-each g c =
+    let none : c.loop-state.left.items ≡ [] = grind (arith, common_steps) in
+    adds_rest_all (g.M.Turns.key_of c.args.system.now) (get g.M.Key.PartialEq.eq c.loop-state.places) c.args.states.items
+    c.loop-state.left.items c.args.more c.args.counts.now.ways.items c.loop-state.counts.ways.items c.loop-state.invariant.rest none

@@ -1,15 +1,16 @@
-use Rattle.std.proofs.Common.{◌≡◌, ℕ, ◌+◌, length, take}
+use Rattle.std.proofs.Common.{◌≡◌, length, take}
 use Rattle.std.specs.HashMap.{get}
-use Rattle.hp_layers.specs.Layers.{AreValid}
-use Rattle.hp_layers.specs.Weighed.{AreWithin, IsAsMany, PlacesStand, weigh}
+use Rattle.hp_layers.specs.Layers.{AreNext, AreValid}
+use Rattle.hp_layers.specs.Named.{IsIndexed}
+use Rattle.hp_layers.proofs.Spreading.{MoveSo}
 use Rattle.hp_layers.proofs.counting.next_counts.Given as goal
 
 abbrev pub invariant-loop-place : goal.invariant-loop-place
 invariant-loop-place g l = record {
   valid : AreValid (g.M.Turns.valid l.system) l.next.states.items;
   long : length l.next.ways.items ≡ length l.next.states.items;
-  within : AreWithin (get g.M.Key.PartialEq.eq l.places) (length l.next.states.items);
-  stand : PlacesStand (λ s k. g.M.Key.PartialEq.eq (g.M.Turns.key_of l.system s) k) (get g.M.Key.PartialEq.eq l.places) l.next.states.items;
-  sum : (n : ℕ) (e : _) → IsAsMany (weigh l.next.ways.items l.next.states.items (λ t. g.M.Counts.ways l.system t n e))
-      (weigh (take l.place l.layer.ways.items) (take l.place l.layer.states.items) (λ t. g.M.Counts.ways l.system t (n + 1) e));
+  indexed : IsIndexed g.M.Key.PartialEq.eq (λ s k. g.M.Turns.key_of l.system s ≡ k) (get g.M.Key.PartialEq.eq l.places) l.next.states.items;
+  next : AreNext (g.M.Turns.turn l.system) (g.M.Turns.alike l.system) (take l.place l.layer.states.items) l.next.states.items;
+  moves : MoveSo (g.M.Ends.step l.system) (g.M.Turns.key_of l.system) (get g.M.Key.PartialEq.eq l.places)
+      (take l.place l.layer.states.items) (take l.place l.layer.ways.items) l.next.ways.items;
 }

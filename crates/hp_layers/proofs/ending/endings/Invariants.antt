@@ -1,14 +1,24 @@
-use Rattle.std.proofs.Common.{List}
-use Rattle.std.specs.HashSet.{contains}
-use Rattle.hp_layers.specs.Ended.{AreShortest, EndingsStand}
+use Rattle.std.proofs.Common.{◌≡◌, List, length}
+use Rattle.std.specs.Prelude.{Some}
+use Rattle.std.specs.HashMap.{get}
+use Rattle.hp_layers.specs.Ended.{AreShortest, has_place}
 use Rattle.hp_layers.specs.Layers.{AreKeysOf, IsLayer}
+use Rattle.hp_layers.specs.Named.{AreTold, IsIndexed}
+use Rattle.hp_layers.proofs.Spreading.{AreSpread}
 use Rattle.hp_layers.proofs.Taking.{HasBefore}
 use Rattle.hp_layers.proofs.ending.endings.Given as goal
 
 abbrev pub invariant-loop-turns : goal.invariant-loop-turns
-invariant-loop-turns g l =
-    IsLayer (g.M.Turns.turn l.system) (g.M.Turns.alike l.system) l.fn.first l.turns l.layer.items
-    × EndingsStand (g.M.Ends.ending_of l.system) (contains g.M.Ending.PartialEq.eq l.seen) l.states.items
-    × AreShortest (g.M.Turns.turn l.system) (g.M.Ends.ending_of l.system) l.fn.first l.states.items
-    × HasBefore (g.M.Turns.turn l.system) (g.M.Ends.ending_of l.system) l.fn.first (contains g.M.Ending.PartialEq.eq l.seen) l.turns
-    × ((keys : List _) × AreKeysOf g.M.Key.PartialEq.eq (g.M.Turns.key_of l.system) keys l.layer.items)
+invariant-loop-turns g l = record {
+  layer : IsLayer (g.M.Turns.turn l.system) (g.M.Turns.alike l.system) l.fn.first l.turns l.layer.states.items;
+  even : length l.layer.ways.items ≡ length l.layer.states.items;
+  long : length l.counts.ways.items ≡ length l.counts.states.items;
+  indexed : IsIndexed g.M.Ending.PartialEq.eq (λ s e. g.M.Ends.ending_of l.system s ≡ Some e) (get g.M.Ending.PartialEq.eq l.places)
+      l.counts.states.items;
+  shortest : AreShortest (g.M.Turns.turn l.system) (g.M.Ends.ending_of l.system) l.fn.first l.counts.states.items;
+  before : HasBefore (g.M.Turns.turn l.system) (g.M.Ends.ending_of l.system) l.fn.first
+      (has_place (get g.M.Ending.PartialEq.eq l.places)) l.turns;
+  keys : (keys : List _) × AreKeysOf g.M.Key.PartialEq.eq (g.M.Turns.key_of l.system) keys l.layer.states.items;
+  spread : AreSpread (g.M.Ends.step l.system) (g.M.Turns.alike l.system) l.fn.first l.turns l.layer;
+  told : AreTold (g.M.Ends.step l.system) (g.M.Ends.ending_of l.system) l.fn.first l.turns l.counts;
+}
