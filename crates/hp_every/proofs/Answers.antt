@@ -102,7 +102,7 @@ knowing c moments (inr none) =
     (record { condition = c; seen = false }, refl, record { seen = (λ s. never s, λ o. absurd (none o)) })
 
 -- what is known of the calls
-tracking : (moments : List Moment) → (calls : List TaskCalls) × AreCalls calls moments
+pub tracking : (moments : List Moment) → (calls : List TaskCalls) × AreCalls calls moments
 tracking [] = ([], record { last = λ t. refl; begun = λ t. refl })
 tracking (m ∷ before) = one_more_call (tracking before).0 before m (tracking before).1
 

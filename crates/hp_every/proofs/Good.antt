@@ -97,11 +97,11 @@ same_watches (v ∷ vs) (w ∷ ws) c s =
     λ i. record { condition = x.0 i; seen = y.0 i } ∷ rest i
 
 -- which call it is is told by its number
-named : ℕ → CallWord
+pub named : ℕ → CallWord
 named n = slice_index_or (call.Nothing ∷ call.Map ∷ call.MapNoReserve ∷ call.Unmap ∷ call.Load ∷ call.Store ∷ call.Alloc ∷ call.AllocKeep
     ∷ call.Punch ∷ call.Truncate ∷ call.Exit ∷ []) n call.Nothing
 
-by_number : (w : CallWord) → named (call_number w) ≡ w
+pub by_number : (w : CallWord) → named (call_number w) ≡ w
 unfolding named
 by_number call.Nothing = refl
 by_number call.Map = refl
@@ -125,7 +125,7 @@ tells_calls = record {
 }
 
 -- two lists of which each tells its own are told by their words, where they are equally long
-tells_list : {A B : Type 0} {u : A → List ℕ} {f : A → B} → Tells u u f f → (xs ys : List A) (ss ts : List ℕ) → length xs ≡ length ys
+pub tells_list : {A B : Type 0} {u : A → List ℕ} {f : A → B} → Tells u u f f → (xs ys : List A) (ss ts : List ℕ) → length xs ≡ length ys
     → flat_map u xs ++ ss ≡ flat_map u ys ++ ts → (map f xs ≡ map f ys) × (ss ≡ ts)
 tells_list {u = u} tells xs ys ss ts long e =
     let front : counted u xs ++ ss ≡ counted u ys ++ ts = λ i. long i ∷ e i in
@@ -210,14 +210,22 @@ last_turn a f turns next (m ∷ ms) p run e =
     let last = last_same (turns_of ms) turns (turn_of m.event) next e in
     record { m = m; ms = ms; is = refl; made = last.0; last = last.1; split = split a f m ms p run }
 
-pub follows : (a : Question) (s t after : PathState) → AreAsGood a s t → GoesOn a s after → (u : PathState) × GoesOn a t u × AreAsGood a after u
-follows a s t after x goes = (u, record { next = goes.next; turns = refl; path = path }, as_good_of a after u z path z.known z.know know same)
-  where
-    z : IsPath a after
-    z = goes.path
+-- A schedule that goes on, and another that does so as well: by the same event, with the same outcome, to the same place.
+pub record AlsoGoes (a : Question) (s t : PathState) (x : AreAsGood a s t) (next : Turn) (z : HasTurns a (s.turns ++ next ∷ [])) : Type 0 where
+  pub last : LastTurn a z.first s.turns next z.moments z.last
+  pub n : Moment
+  pub place : Place
+  pub run : IsRun a x.there.first (n ∷ x.there.moments) place
+  pub same : Same z.last place
+  pub on : SameMoment last.m n
+  pub back : SameMoment n last.m
 
-    l : LastTurn a z.first s.turns goes.next z.moments z.last
-    l = last_turn a z.first s.turns goes.next z.moments z.last z.run (z.made ∙ goes.turns)
+pub also_goes : (a : Question) (s t : PathState) (x : AreAsGood a s t) (next : Turn) (z : HasTurns a (s.turns ++ next ∷ []))
+    → AlsoGoes a s t x next z
+also_goes a s t x next z = record { last = l; n = n; place = r; run = run; same = same; on = on; back = back }
+  where
+    l : LastTurn a z.first s.turns next z.moments z.last
+    l = last_turn a z.first s.turns next z.moments z.last z.run z.made
 
     here : HasTurns a s.turns
     here = record { first = z.first; moments = l.ms; last = l.split.before; run = l.split.run; made = l.made }
@@ -258,30 +266,69 @@ follows a s t after x goes = (u, record { next = goes.next; turns = refl; path =
       cores = moment_twins a n l.m r z.last is_other is_place (turned_round z.last r same) refl l.split.core;
     }
 
-    know : AllKnow a.conditions z.known (n ∷ x.there.moments)
-    know = all_know_more a.conditions z.known x.known l.ms x.there.moments l.m n on back
+-- those behind the last turn, as a schedule
+abbrev pub before_last : (a : Question) (turns : List Turn) (next : Turn) (z : HasTurns a (turns ++ next ∷ []))
+    → LastTurn a z.first turns next z.moments z.last → HasTurns a turns
+before_last a turns next z l = record { first = z.first; moments = l.ms; last = l.split.before; run = l.split.run; made = l.made }
+
+-- the other one, with its turns
+abbrev pub other_goes : (a : Question) (s t : PathState) (x : AreAsGood a s t) (next : Turn) (z : HasTurns a (s.turns ++ next ∷ []))
+    → AlsoGoes a s t x next z → HasTurns a (t.turns ++ next ∷ [])
+other_goes a s t x next z g = record {
+  first = x.there.first;
+  moments = g.n ∷ x.there.moments;
+  last = g.place;
+  run = g.run;
+  made = λ i. x.there.made i ++ (ap turn_of (sym g.on.event) ∙ g.last.last) i ∷ [];
+}
+
+pub follows_by : (a : Question) (s t after : PathState) (next : Turn) → AreAsGood a s t → after.turns ≡ s.turns ++ next ∷ []
+    → IsPath a after → (u : PathState) × (u.turns ≡ t.turns ++ next ∷ []) × IsPath a u × AreAsGood a after u
+unfolding also_goes
+follows_by a s t after next x turns z = (u, refl, path, as_good_of a after u z path z.known z.know know g.same)
+  where
+    h : HasTurns a (s.turns ++ next ∷ [])
+    h = record { first = z.first; moments = z.moments; last = z.last; run = z.run; made = z.made ∙ turns }
+
+    g : AlsoGoes a s t x next h
+    g = also_goes a s t x next h
+
+    o : HasTurns a (t.turns ++ next ∷ [])
+    o = other_goes a s t x next h g
+
+    here : HasTurns a s.turns
+    here = before_last a s.turns next h g.last
+
+    know : AllKnow a.conditions z.known (g.n ∷ x.there.moments)
+    know = all_know_more a.conditions z.known x.known g.last.ms x.there.moments g.last.m g.n g.on g.back
         (know_by_turns a s.turns x.here here x.known x.knows_here) x.knows_there
-        (subst (λ (ms : List Moment). AllKnow a.conditions z.known ms) l.is z.know)
+        (subst (λ (ms : List Moment). AllKnow a.conditions z.known ms) g.last.is z.know)
 
     u : PathState
-    u = record { turns = t.turns ++ goes.next ∷ []; key = search_words z.known r; met = after.met }
+    u = record { turns = t.turns ++ next ∷ []; key = search_words z.known g.place; met = after.met }
 
     path : IsPath a u
     path = record {
       first = x.there.first;
-      moments = n ∷ x.there.moments;
-      last = r;
+      moments = g.n ∷ x.there.moments;
+      last = g.place;
       known = z.known;
-      run = run;
-      made = λ i. x.there.made i ++ l.last i ∷ [];
+      run = g.run;
+      made = o.made;
       know = know;
       key = refl;
       met = (
-        λ met. meets_there a z.first x.there.first z.moments (n ∷ x.there.moments) z.last r z.known z.run run same z.know know (z.met.0 met),
-        λ meets. z.met.1 (meets_there a x.there.first z.first (n ∷ x.there.moments) z.moments r z.last z.known run z.run
-            (turned_round z.last r same) know z.know meets),
+        λ met. meets_there a z.first x.there.first z.moments (g.n ∷ x.there.moments) z.last g.place z.known z.run g.run g.same z.know know
+            (z.met.0 met),
+        λ meets. z.met.1 (meets_there a x.there.first z.first (g.n ∷ x.there.moments) z.moments g.place z.last z.known g.run z.run
+            (turned_round z.last g.place g.same) know z.know meets),
       );
     }
+
+pub follows : (a : Question) (s t after : PathState) → AreAsGood a s t → GoesOn a s after → (u : PathState) × GoesOn a t u × AreAsGood a after u
+follows a s t after x goes =
+    let z = follows_by a s t after goes.next x goes.turns goes.path in
+    (z.0, record { next = goes.next; turns = z.1; path = z.2 }, z.3)
 
 -- what a search stands on: of the paths that are right, whatever else is known of them
 pub as_good : (a : Question) (K : Type 0) → IsAsGood (λ s. K × IsPath a s) (GoesOn a) (λ s. s.met ≡ true) (AreAsGood a)

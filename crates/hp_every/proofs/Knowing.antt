@@ -79,7 +79,7 @@ all_same a f g (m ∷ ms) (n ∷ ns) p q here there e =
 -- ---- the calls of tasks
 
 -- each task has begun as many calls, and the same last
-AreTracked : List Moment → List Moment → Type 0
+unfoldable pub AreTracked : List Moment → List Moment → Type 0
 AreTracked ms ns = (t : ℕ) → (last_call t ms ≡ last_call t ns) × (calls_begun t ms ≡ calls_begun t ns)
 
 tracked_more : (ms ns : List Moment) (m n : Moment) → SameMoment m n → AreTracked ms ns → AreTracked (m ∷ ms) (n ∷ ns)
@@ -90,7 +90,7 @@ tracked_more ms ns m n h before t =
       λ i. if is_begin t (h.event i) && is_begun (h.outcome i) then old.1 i + 1 else old.1 i,
     )
 
-tracked_there : (ms ns : List Moment) → AreSame ms ns → AreTracked ms ns
+pub tracked_there : (ms ns : List Moment) → AreSame ms ns → AreTracked ms ns
 unfolding AreTracked
 tracked_there [] [] h = λ t. (refl, refl)
 tracked_there [] (n ∷ ns) h = absurd h
@@ -98,7 +98,7 @@ tracked_there (m ∷ ms) [] h = absurd h
 tracked_there (m ∷ ms) (n ∷ ns) (one, rest) = tracked_more ms ns m n one (tracked_there ms ns rest)
 
 -- what is known of both tells that they are the same
-tracked_by : (calls : List TaskCalls) (ms ns : List Moment) → AreCalls calls ms → AreCalls calls ns → AreTracked ms ns
+pub tracked_by : (calls : List TaskCalls) (ms ns : List Moment) → AreCalls calls ms → AreCalls calls ns → AreTracked ms ns
 unfolding AreTracked
 tracked_by calls ms ns a b t = (sym (a.last t) ∙ b.last t, sym (a.begun t) ∙ b.begun t)
 
@@ -122,7 +122,7 @@ pages_there s n f h =
     ap (λ (x : State). count_below (λ i. is_some (x.pages f i)) LIMIT) h.alike.1
     ∙ ap (λ (there : ℕ → Bool). count_below there LIMIT) (fun_ext (λ i. still_some h.alike.0.to (s.pages f i)))
 
-count_there : (count : PoolCount) (s n : CoreState) → Twins (as_state s) (as_state n) → count_of count n ≡ count_of count s
+pub count_there : (count : PoolCount) (s n : CoreState) → Twins (as_state s) (as_state n) → count_of count n ≡ count_of count s
 unfolding readers.resv_of readers.free_of readers.used_of readers.calls_of readers.reserved_of readers.pages_of
 count_there Resv s n h = same_resv (as_state s) (as_state n) h
 count_there Free s n h = same_free (as_state s) (as_state n) h

@@ -1,3 +1,4 @@
+pub mod Endings
 pub mod Places
 pub mod Scheduled
 pub mod Schedules
