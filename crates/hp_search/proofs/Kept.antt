@@ -125,8 +125,8 @@ unfolding IsCutAtLimits
 right_cut_at eq key_of turn limits first n v is h = subst (IsCutAtLimits eq key_of turn first limits) is h
 
 -- as many events as turns
-pub within : (a : Question) (turns : List Turn) (events : List Event) (p : Position) (n most : ℕ) → IsAt a turns events p → length turns ≡ n → n < most
-    → length events < most
+pub within : (a : Question) (turns : List Turn) (events : List Event) (p : Position) (n most : ℕ)
+    → IsAt a turns events p → length turns ≡ n → n < most → length events < most
 within a turns events p n most at long few =
     let told = ap (λ (es : List Event). length es) (sym at.told) ∙ event_count at.moments in
     let made = ap (λ (xs : List Turn). length xs) (sym at.made) ∙ turn_count at.moments in

@@ -1,3 +1,6 @@
-pub mod Made
-pub mod Wanted
+pub mod Closed
 pub mod Kept
+pub mod Listed
+pub mod Made
+pub mod Table
+pub mod Wanted

@@ -1,6 +1,6 @@
 -- What a search makes are schedules.
 use Rattle.std.proofs.Common.{◌≡◌, ◌∙◌, ◌⊎◌, ℕ, ◌+◌, ◌<◌, ◌≤◌, refl, ap, sym, subst, inl, inr, arith, List, [], ◌∷◌, ◌++◌, length, take}
-use Rattle.std.specs.Prelude.{◌↔◌, Bool, Contains, IsTrue, slice_index_or}
+use Rattle.std.specs.Prelude.{◌↔◌, Bool, Contains, IfSome, IsTrue, None, Option, Some, slice_index_or}
 use Rattle.std.proofs.lemmas.List.{take_all, take_more}
 use Rattle.std.proofs.lemmas.Bool.{cases_lt}
 use Rattle.std.proofs.lemmas.List.Elements.{Contains-append_left, Contains-push, Contains-push_cases}
@@ -8,18 +8,25 @@ use Rattle.hp_base.specs.declared.event.Event.{Event}
 use Rattle.hp_machine.specs.declared.outcome.Outcome.{Outcome}
 use Rattle.hp_core.specs.Runs.{IsOpening, Row}
 use Rattle.hp_core.specs.State.{CoreState}
+use Rattle.hp_watch.specs.Calls.{AreCalls, ended_by}
 use Rattle.hp_watch.specs.Moments.{Moment}
+use Rattle.hp_watch.specs.declared.calls.EndedCall.{EndedCall}
+use Rattle.hp_watch.specs.declared.calls.TaskCalls.{TaskCalls}
 use Rattle.hp_explore.specs.Schedule.{Plan, World}
 use Rattle.hp_hunt.specs.Watching.{AllKnow, known_of}
 use Rattle.hp_hunt.specs.declared.condition.Condition.{Condition}
 use Rattle.hp_hunt.specs.declared.watching.Watches.{Watches}
 use Rattle.hp_every.specs.declared.turn.Turn.{Turn}
 use Rattle.hp_every.specs.declared.turn.Turn.TheVariants as turn
+use Rattle.hp_every.specs.Endings.{all_among, among}
 use Rattle.hp_every.specs.Schedules.{IsTask, Leads, MayTurn, Place, first_place, plan_for}
 use Rattle.hp_every.specs.Search.{Question, HasTurns}
 use Rattle.hp_every.specs.Turns.{AreAllTurns, IsChosen, task_of}
 use Rattle.hp_every.proofs.Answers.{may_at, may_at_place}
 use Rattle.hp_every.proofs.Sames.{joined}
+use Rattle.hp_layers.specs.Named.{AreApart}
+use Rattle.hp_layers.proofs.Naming.{apart_append, apart_one}
+use Rattle.hp_search.specs.declared.answers.Answers.{Answers}
 use Rattle.hp_search.specs.declared.position.Position.{Position}
 use Rattle.hp_search.specs.Searching.{IsAt, IsMade, place_of}
 
@@ -38,16 +45,19 @@ at_more a turns events p q next event h made =
       made = λ i. h.made i ++ made.same i ∷ [];
       told = λ i. h.told i ++ event ∷ [];
       know = made.know a.conditions h.moments h.know;
+      answers = made.answers h.moments h.know.calls ∙ ap (all_among (ended_by h.moments event made.outcome)) h.answers;
     }
 
 -- a turn that was chosen and played is made
 pub made_of : (plan : Plan) (old mid : Position) (turn : Turn) (event : Event) (outcome : Outcome) (walk : World) (watches : Watches)
-    → IsChosen plan (place_of old) turn event (place_of mid) → mid.walk.core ≡ old.walk.core → mid.watches ≡ old.watches
-    → Row mid.walk.core event outcome walk.core → walk ≡ record mid.walk { core = walk.core }
+    (answers : Answers) → IsChosen plan (place_of old) turn event (place_of mid) → mid.walk.core ≡ old.walk.core → mid.watches ≡ old.watches
+    → mid.answers ≡ old.answers → Row mid.walk.core event outcome walk.core → walk ≡ record mid.walk { core = walk.core }
     → ((conditions : List Condition) (before : List Moment) → AllKnow conditions (known_of mid.watches) before
     → AllKnow conditions (known_of watches) (record { event = event; outcome = outcome; core = walk.core } ∷ before))
-    → IsMade plan old turn event (record { walk = walk; watches = watches; denials = mid.denials; kills = mid.kills })
-made_of plan old mid turn event outcome walk watches chosen core seen row stays know = record {
+    → ((before : List Moment) → AreCalls mid.watches.calls.tasks.items before
+    → answers.ended.items ≡ all_among (ended_by before event outcome) mid.answers.ended.items)
+    → IsMade plan old turn event (record { walk = walk; watches = watches; answers = answers; denials = mid.denials; kills = mid.kills })
+made_of plan old mid turn event outcome walk watches answers chosen core seen had row stays know ended = record {
   outcome = outcome;
   made = record {
     task = task_of turn;
@@ -95,12 +105,75 @@ made_of plan old mid turn event outcome walk watches chosen core seen row stays 
   same = chosen.same;
   know = λ conditions before knows. know conditions before
       (subst (λ (ws : Watches). AllKnow conditions (known_of ws) before) (sym seen) knows);
+  answers = λ before calls. ended before (subst (λ (ws : Watches). AreCalls ws.calls.tasks.items before) (sym seen) calls)
+      ∙ ap (λ (x : Answers). all_among (ended_by before event outcome) x.ended.items) had;
 }
   where
     made : walk.made ≡ mid.walk.made
     made = ap (λ (w : World). w.made) stays
 
+-- the call that ended behind those moments, if one did
+pub told_some : (ended : Option EndedCall) (tasks : List TaskCalls) (before : List Moment) (event : Event) (outcome : Outcome)
+    → AreCalls tasks before
+    → IfSome ended (λ call. (moments : List Moment) → AreCalls tasks moments → ended_by moments event outcome ≡ call ∷ [])
+    → IfSome ended (λ call. ended_by before event outcome ≡ call ∷ [])
+told_some None tasks before event outcome calls h = h
+told_some (Some call) tasks before event outcome calls h = h before calls
+
+-- the answers with the call that ended, if one did
+pub answers_seen : (ended : Option EndedCall) (before : List Moment) (event : Event) (outcome : Outcome) (old new : List EndedCall)
+    → IfSome ended (λ call. ended_by before event outcome ≡ call ∷ []) → (ended ≡ None → ended_by before event outcome ≡ [])
+    → IfSome ended (λ call. new ≡ among call old) → (ended ≡ None → new ≡ old) → new ≡ all_among (ended_by before event outcome) old
+answers_seen None before event outcome old new some none put kept =
+    kept refl ∙ ap (λ (es : List EndedCall). all_among es old) (sym (none refl))
+answers_seen (Some call) before event outcome old new some none put kept =
+    put ∙ ap (λ (es : List EndedCall). all_among es old) (sym some)
+
 -- ---- which turns are listed
+
+-- a list has what the one before has, and the turn if the flag says so
+abbrev pub Lists : (old new : List Turn) → (may : Bool) → Turn → Type 0
+Lists old new may turn = (t : Turn) → (Contains new t ↔ (Contains old t ⊎ (IsTrue may × (t ≡ turn))))
+
+-- a turn more, if it isn't there
+apart_more : (old new : List Turn) (t : Turn) → (new ≡ old) ⊎ (new ≡ old ++ t ∷ []) → AreApart old → (Contains old t → ⊥) → AreApart new
+apart_more old new t added apart none = elim added [
+  | inl same ↦ subst AreApart (sym same) apart
+  | inr more ↦ subst AreApart (sym more) (apart_append old (t ∷ []) apart (apart_one t)
+      (λ x c d. elim (Contains-push_cases [] t x d) [ inl e ↦ absurd (omega (arith, e.1)) | inr e ↦ none (subst (Contains old) (sym e) c) ]))
+]
+
+-- which kind of turn it is
+kind : Turn → ℕ
+kind (turn.Next t) = 0
+kind (turn.Denied t) = 1
+kind (turn.Killed t) = 2
+
+-- the turns of one task are three
+pub apart_task : (k : ℕ) (a b c d : List Turn) (next deny kill : Bool)
+    → (b ≡ a) ⊎ (b ≡ a ++ turn.Next k ∷ []) → (c ≡ b) ⊎ (c ≡ b ++ turn.Denied k ∷ []) → (d ≡ c) ⊎ (d ≡ c ++ turn.Killed k ∷ [])
+    → Lists a b next (turn.Next k) → Lists b c deny (turn.Denied k) → AreApart a → ((t : Turn) → Contains a t → task_of t < k) → AreApart d
+unfolding kind
+apart_task k a b c d next deny kill one two three first second apart low =
+    apart_more c d (turn.Killed k) three (apart_more b c (turn.Denied k) two (apart_more a b (turn.Next k) one apart new) denied) killed
+  where
+    new : Contains a (turn.Next k) → ⊥
+    new x = absurd (let z = low (turn.Next k) x in omega (arith, z))
+
+    denied : Contains b (turn.Denied k) → ⊥
+    denied x = elim ((first (turn.Denied k)).0 x) [
+      | inl y ↦ absurd (let z = low (turn.Denied k) y in omega (arith, z))
+      | inr y ↦ absurd (let z = ap kind y.1 in omega (arith, z))
+    ]
+
+    killed : Contains c (turn.Killed k) → ⊥
+    killed x = elim ((second (turn.Killed k)).0 x) [
+      | inl y ↦ elim ((first (turn.Killed k)).0 y) [
+        | inl w ↦ absurd (let z = low (turn.Killed k) w in omega (arith, z))
+        | inr w ↦ absurd (let z = ap kind w.1 in omega (arith, z))
+      ]
+      | inr y ↦ absurd (let z = ap kind y.1 in omega (arith, z))
+    ]
 
 -- one turn more is listed, if it may be made
 pub listed_one : (old : List Turn) (turn t : Turn) → (Contains (old ++ turn ∷ []) t ↔ (Contains old t ⊎ (t ≡ turn)))
@@ -114,10 +187,6 @@ listed_one old turn t = (
     | inr same ↦ subst (λ (x : Turn). Contains (old ++ turn ∷ []) x) (sym same) (Contains-push old turn)
   ],
 )
-
--- a list has what the one before has, and the turn if the flag says so
-abbrev pub Lists : (old new : List Turn) → (may : Bool) → Turn → Type 0
-Lists old new may turn = (t : Turn) → (Contains new t ↔ (Contains old t ⊎ (IsTrue may × (t ≡ turn))))
 
 -- the turns of one task
 pub listed_task : (plan : Plan) (p : Place) (k : ℕ) (a b c d : List Turn) (next deny kill : Bool) → Lists a b next (turn.Next k)
@@ -198,15 +267,17 @@ listed_all plan p turns n all up t = (
 
 -- none is made
 pub at_first : (a : Question) (p : Position) → IsOpening a.script.config p.walk.core
-    → place_of p ≡ first_place a.script a.denials a.kills p.walk.core → AllKnow a.conditions (known_of p.watches) [] → IsAt a [] [] p
+    → place_of p ≡ first_place a.script a.denials a.kills p.walk.core → AllKnow a.conditions (known_of p.watches) []
+    → p.answers.ended.items ≡ [] → IsAt a [] [] p
 unfolding Leads
-at_first a p opens place know = record {
+at_first a p opens place know answers = record {
   first = p.walk.core;
   moments = [];
   run = record { opening = opens; leads = place };
   made = refl;
   told = refl;
   know = know;
+  answers = answers;
 }
 
 -- the next of them may be made

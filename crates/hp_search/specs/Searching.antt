@@ -7,13 +7,16 @@ use Rattle.hp_base.specs.Text.{sizes}
 use Rattle.hp_base.specs.declared.event.Event.{Event}
 use Rattle.hp_machine.specs.State.{Pool}
 use Rattle.hp_machine.specs.declared.outcome.Outcome.{Outcome}
+use Rattle.hp_core.specs.Readers.{free_of, resv_of, used_of}
 use Rattle.hp_core.specs.State.{CoreState}
+use Rattle.hp_watch.specs.Calls.{AreCalls, ended_by}
 use Rattle.hp_watch.specs.Moments.{Moment, events_of}
 use Rattle.hp_explore.specs.Schedule.{Plan}
 use Rattle.hp_hunt.specs.Watching.{AllKnow, Known, known_of}
 use Rattle.hp_hunt.specs.declared.condition.Condition.{Condition}
 use Rattle.hp_layers.specs.declared.limits.Limits.{Limits}
 use Rattle.hp_every.specs.declared.turn.Turn.{Turn}
+use Rattle.hp_every.specs.Endings.{Ended, all_among, answers_in}
 use Rattle.hp_every.specs.Schedules.{AnyTurn, IsShortest, NoScheduleMeets, Place, ScheduleMeets, plan_for}
 use Rattle.hp_every.specs.Search.{IsRun, Question, search_words}
 use Rattle.hp_every.specs.Turns.{turn_of, turns_of}
@@ -44,6 +47,15 @@ IsQuery q = q.plan.now ≡ plan_for q.script.now
 abbrev pub place_of : Position → Place
 place_of p = record { core = p.walk.core; made = p.walk.made; denials = p.denials; kills = p.kills }
 
+-- how a schedule would end there
+abbrev pub ended_here : Position → Ended
+ended_here p = record {
+  answers = p.answers.ended.items;
+  free = free_of p.walk.core;
+  resv = resv_of p.walk.core;
+  used = used_of p.walk.core;
+}
+
 -- the turn was made, by that event, and the watches have seen it
 pub record IsMade (plan : Plan) (old : Position) (turn : Turn) (asks : Event) (new : Position) : Type 0 where
   pub outcome : Outcome
@@ -51,6 +63,8 @@ pub record IsMade (plan : Plan) (old : Position) (turn : Turn) (asks : Event) (n
   pub same : turn_of asks ≡ turn
   pub know : (conditions : List Condition) (before : List Moment) → AllKnow conditions (known_of old.watches) before
       → AllKnow conditions (known_of new.watches) (record { event = asks; outcome = outcome; core = new.walk.core } ∷ before)
+  pub answers : (before : List Moment) → AreCalls old.watches.calls.tasks.items before
+      → new.answers.ended.items ≡ all_among (ended_by before asks outcome) old.answers.ended.items
 
 -- these turns were made, by these events, and the watches have seen them
 pub record IsAt (a : Question) (turns : List Turn) (events : List Event) (p : Position) : Type 0 where
@@ -60,6 +74,7 @@ pub record IsAt (a : Question) (turns : List Turn) (events : List Event) (p : Po
   pub made : turns_of moments ≡ turns
   pub told : events_of moments ≡ events
   pub know : AllKnow a.conditions (known_of p.watches) moments
+  pub answers : p.answers.ended.items ≡ answers_in moments
 
 -- the key is that of a place to which a schedule of so many turns leads, and of what was seen on the way
 pub record IsKeyOf (a : Question) (turns : ℕ) (key : List ℕ) : Type 0 where

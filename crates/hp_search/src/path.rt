@@ -41,7 +41,7 @@ impl Model for Path {
 }
 
 /// Which call it is, as a word.
-fn call_number(word: CallWord) -> u32
+pub(crate) fn call_number(word: CallWord) -> u32
     ensures { result ≡ call_number word }
 {
     match word {
@@ -164,6 +164,37 @@ pub(crate) fn path_at(
     Ok(Path { turns, key, met })
 }
 
+/// Turns that were made, and where they lead.
+#[derive(Drop)]
+pub(crate) struct Made {
+    pub(crate) turns: Vec<Turn>,
+    pub(crate) position: Position,
+}
+
+/// Makes the turns again, and one more.
+pub(crate) fn make_more(
+    alloc: Global,
+    query: Query,
+    turns: &[Turn],
+    turn: Turn,
+) -> Result<Made, AllocError>
+    requires planned { IsQuery query }
+    requires may { MayGoOn (question_of query) turns.now turn }
+    ensures at { IfOk result (λ made. (events : List Event) × IsAt (question_of query.entry) made.turns.items events made.position) }
+    ensures turns { IfOk result (λ made. made.turns.items ≡ turns.now ++ turn ∷ []) }
+{
+    // The checker of borrows asks for a mention of the type that an event may hold.
+    let _none: (Option<Event>, Option<Op>) = (None, None);
+    let mut events = Vec::with_capacity(alloc, turns.len())?;
+    let mut position = follow(alloc, query, turns, &mut events)?;
+    position.make(query.plan, turn)?;
+    let mut longer = Vec::with_capacity(alloc, turns.len().saturating_add(1))?;
+    longer.extend_from_slice(turns)?;
+    longer.push(turn)?;
+    let turns = longer;
+    Ok(Made { turns, position })
+}
+
 /// The schedule with one turn more.
 fn path_behind(alloc: Global, query: Query, path: &Path, turn: Turn) -> Result<Path, AllocError>
     requires planned { IsQuery query }
@@ -171,14 +202,7 @@ fn path_behind(alloc: Global, query: Query, path: &Path, turn: Turn) -> Result<P
     ensures path { IfOk result (IsPath (question_of query.entry)) }
     ensures turns { IfOk result (λ next. next.turns ≡ path.now.turns ++ turn ∷ []) }
 {
-    // The checker of borrows asks for a mention of the type that an event may hold.
-    let _none: (Option<Event>, Option<Op>) = (None, None);
-    let mut events = Vec::with_capacity(alloc, path.turns.len())?;
-    let mut position = follow(alloc, query, &path.turns, &mut events)?;
-    position.make(query.plan, turn)?;
-    let mut turns = Vec::with_capacity(alloc, path.turns.len().saturating_add(1))?;
-    turns.extend_from_slice(&path.turns)?;
-    turns.push(turn)?;
+    let Made { turns, position } = make_more(alloc, query, &path.turns, turn)?;
     path_at(alloc, query, turns, &position)
 }
 

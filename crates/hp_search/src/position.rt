@@ -1,14 +1,16 @@
 //! A place in a schedule, and what conditions have seen on the way there.
-ghost use Rattle.std.specs.Prelude.{◌≡◌, ◌≤◌, ◌↔◌, ◌⊎◌, [], Contains, IfOk, IsTrue, OnOk};
+ghost use Rattle.std.specs.Prelude.{◌≡◌, ◌<◌, ◌≤◌, ◌++◌, ◌∷◌, ◌↔◌, ◌⊎◌, [], Contains, IfOk, IsTrue, OnOk};
 ghost use Rattle.hp_core.specs.Runs.{IsOpening};
 ghost use Rattle.hp_explore.specs.Explored.{is_done};
 ghost use Rattle.hp_hunt.specs.Watching.{AllKnow, known_of};
+ghost use Rattle.hp_layers.specs.Named.{AreApart};
 ghost use Rattle.hp_every.specs.Schedules.{IsTask, MayTurn, first_place, world};
 ghost use Rattle.hp_every.specs.declared.turn.Turn.{Turn};
 ghost use Rattle.hp_every.specs.declared.turn.Turn.TheVariants as turn;
 ghost use Rattle.hp_every.specs.Turns.{AreAllTurns, IsChosen, task_of};
 ghost use Rattle.hp_search.specs.Searching.{IsMade, place_of};
 
+use crate::answers::Answers;
 use crate::growth::step_wants;
 use crate::query::Query;
 use hp_base::{Answer, Event, Op, Task};
@@ -24,6 +26,8 @@ pub(crate) struct Position {
     pub(crate) walk: Walk,
     /// What has been seen of the conditions.
     pub(crate) watches: Watches,
+    /// The calls that ended.
+    pub(crate) answers: Answers,
     /// So many steps may still be denied, and so many tasks killed.
     pub(crate) denials: u32,
     pub(crate) kills: u32,
@@ -31,7 +35,8 @@ pub(crate) struct Position {
 
 /// Lists the turn behind the others, if it may be made.
 fn push_if(turns: &mut Vec<Turn>, turn: Turn, may: bool) -> Result<(), AllocError>
-    ensures { OnOk result ((t : Turn) → (Contains turns.new.items t ↔ (Contains turns.old.items t ⊎ (IsTrue may × (t ≡ turn))))) }
+    ensures added { OnOk result ((turns.new.items ≡ turns.old.items) ⊎ (turns.new.items ≡ turns.old.items ++ turn ∷ [])) }
+    ensures listed { OnOk result ((t : Turn) → (Contains turns.new.items t ↔ (Contains turns.old.items t ⊎ (IsTrue may × (t ≡ turn))))) }
 {
     if may {
         turns.push(turn)?;
@@ -45,10 +50,12 @@ impl Position {
         ensures opening { IfOk result (λ p. IsOpening query.entry.script.now.config p.walk.core) }
         ensures place { IfOk result (λ p. place_of p ≡ first_place query.entry.script.now query.entry.denials query.entry.kills p.walk.core) }
         ensures know { IfOk result (λ p. AllKnow query.entry.conditions.now (known_of p.watches) []) }
+        ensures answers { IfOk result (λ p. p.answers.ended.items ≡ []) }
     {
         Ok(Position {
             walk: Walk::new(alloc, query.script, 0)?,
             watches: Watches::new(alloc, query.conditions)?,
+            answers: Answers::new(alloc),
             denials: query.denials,
             kills: query.kills,
         })
@@ -60,6 +67,7 @@ impl Position {
         ensures chosen { IsChosen plan.now (place_of self.old) (turn.Next task) result (place_of self.new) }
         ensures core { self.new.walk.core ≡ self.old.walk.core }
         ensures watches { self.new.watches ≡ self.old.watches }
+        ensures answers { self.new.answers ≡ self.old.answers }
     {
         let number = u32::from(task);
         if !self.walk.in_call(number) {
@@ -77,6 +85,7 @@ impl Position {
         ensures chosen { IsChosen plan.now (place_of self.old) turn result (place_of self.new) }
         ensures core { self.new.walk.core ≡ self.old.walk.core }
         ensures watches { self.new.watches ≡ self.old.watches }
+        ensures answers { self.new.answers ≡ self.old.answers }
     {
         match turn {
             Turn::Next(task) => self.go_on(plan, task),
@@ -100,7 +109,9 @@ impl Position {
         let _none: (Option<Op>, Option<Outcome>, Option<Answer>) = (None, None, None);
         let event = self.choose(plan, turn);
         let outcome = self.walk.apply(&event, turn.task())?;
+        let ended = self.watches.calls().ended_by(&event, &outcome);
         self.watches.see(&event, &outcome, self.walk.core())?;
+        self.answers.see(ended)?;
         Ok(event)
     }
 
@@ -142,8 +153,10 @@ impl Position {
     /// Lists the turns of the task that may be made, behind those that are listed.
     fn push_turns(&self, plan: &Plan, task: u8, turns: &mut Vec<Turn>) -> Result<(), AllocError>
         requires { IsTask (place_of self.now) task }
-        ensures { OnOk result ((t : Turn) → (Contains turns.new.items t
+        ensures listed { OnOk result ((t : Turn) → (Contains turns.new.items t
             ↔ (Contains turns.old.items t ⊎ ((task_of t ≡ task) × MayTurn plan.now (place_of self.now) t)))) }
+        ensures apart { OnOk result (AreApart turns.old.items → ((t : Turn) → Contains turns.old.items t → task_of t < task)
+            → AreApart turns.new.items) }
     {
         let number = u32::from(task);
         push_if(turns, Turn::Next(task), self.may_go_on(plan, number))?;
@@ -152,9 +165,10 @@ impl Position {
         Ok(())
     }
 
-    /// All turns that may be made.
+    /// All turns that may be made, each once.
     pub(crate) fn next_turns(&self, alloc: Global, plan: &Plan) -> Result<Vec<Turn>, AllocError>
-        ensures { IfOk result (λ turns. AreAllTurns plan.now (place_of self.now) turns.items) }
+        ensures all { IfOk result (λ turns. AreAllTurns plan.now (place_of self.now) turns.items) }
+        ensures apart { IfOk result (λ turns. AreApart turns.items) }
     {
         let tasks = self.walk.made().len();
         let mut turns = Vec::new(alloc);

@@ -14,7 +14,8 @@ path_at-requires-clause-at c c' =
     let a = question c'.args.script.now c'.args.budget c'.args.conditions.now in (
       [],
       subst (λ (turns : List Turn). IsAt a turns [] c'.in_ok-position.position) (sym c'.new-2.ensures.items)
-          (at_first a c'.in_ok-position.position c'.in_ok-position.ensures.opening c'.in_ok-position.ensures.place c'.in_ok-position.ensures.know),
+          (at_first a c'.in_ok-position.position c'.in_ok-position.ensures.opening c'.in_ok-position.ensures.place c'.in_ok-position.ensures.know
+          c'.in_ok-position.ensures.answers),
     )
 
 pub returns-in-Never-clause-answer : goal.returns-in-Never-clause-answer

@@ -12,7 +12,7 @@ pub loop-turn-init : goal.loop-turn-init
 loop-turn-init c =
     subst (λ (events : List Event). IsAt (question_of c.args.query) [] events c.in_ok-position.position) (sym c.clear.ensures.items)
     (at_first (question_of c.args.query) c.in_ok-position.position c.in_ok-position.ensures.opening c.in_ok-position.ensures.place
-    c.in_ok-position.ensures.know)
+    c.in_ok-position.ensures.know c.in_ok-position.ensures.answers)
 
 pub make-requires : goal.make-requires
 make-requires c =

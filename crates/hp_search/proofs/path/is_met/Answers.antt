@@ -18,5 +18,5 @@ returns c = λ first moments core know. (
     ends_met c.args.query.plan.now conditions first moments (place_of c.args.position.now) c.in_ok-turns.turns.items c.is_empty.result
     (c.if-not-are_met.ensures.met refl conditions first moments (c.core.ensures.core ∙ core)
     know)
-    some.0 some.1 some.2 c.in_ok-turns.ensures
+    some.0 some.1 some.2 c.in_ok-turns.ensures.all
     (c.is_empty.ensures ∙ ap (λ (xs : List Turn). length xs == 0) c.as_slice.ensures.value))

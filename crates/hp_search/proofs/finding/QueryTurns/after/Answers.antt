@@ -17,7 +17,7 @@ paths_behind-requires-clause-may c =
     let at = subst (λ (xs : List Turn). IsAt a xs c.follow.new.events.items c.in_ok-position.position) here c.in_ok-position.ensures in
     let turns = c.args.path.now.turns in
     let all = subst (λ (plan : Plan). AreAllTurns plan (place_of c.in_ok-position.position) c.in_ok-turns.turns.items) c.requires.0
-    c.in_ok-turns.ensures in
+    c.in_ok-turns.ensures.all in
     subst (λ (next : List Turn). All (MayGoOn a turns) next) (sym c.deref-2.ensures.value)
     (goes_on a turns (has_at a turns c.follow.new.events.items c.in_ok-position.position at) c.in_ok-turns.turns.items all)
 
@@ -28,7 +28,7 @@ returns c =
     let at = subst (λ (xs : List Turn). IsAt a xs c.follow.new.events.items c.in_ok-position.position) here c.in_ok-position.ensures in
     let turns = c.args.path.now.turns in
     let all = subst (λ (plan : Plan). AreAllTurns plan (place_of c.in_ok-position.position) c.in_ok-turns.turns.items) c.requires.0
-    c.in_ok-turns.ensures in
+    c.in_ok-turns.ensures.all in
     all_after a c.args.path.now (has_at a turns c.follow.new.events.items c.in_ok-position.position at) c.in_ok-turns.turns.items
     c.in_ok-next.next.items all
     (subst (λ (xs : List Turn). AreBehind a c.args.path.now xs c.in_ok-next.next.items) c.deref-2.ensures.value c.in_ok-next.ensures)

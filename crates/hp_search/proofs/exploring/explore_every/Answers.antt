@@ -1,0 +1,45 @@
+use Rattle.std.proofs.Common.{◌∙◌, [], List, refl, subst, sym}
+use Rattle.hp_every.specs.declared.turn.Turn.{Turn}
+use Rattle.hp_every.specs.Endings.{EndState, GoesBy, GoesOnBy}
+use Rattle.hp_search.specs.Endings.{AreAllEndings}
+use Rattle.hp_search.specs.Searching.{IsAt, question}
+use Rattle.hp_search.proofs.Made.{at_first}
+use Rattle.hp_search.proofs.Table.{all_rows, states_right, whole_shortest, whole_told}
+use Rattle.hp_search.proofs.exploring.explore_every.Goals as goal
+
+pub end_path_at-requires-clause-at : goal.end_path_at-requires-clause-at
+end_path_at-requires-clause-at g c =
+    let a = question c.args.script.now c.args.budget [] in (
+      [],
+      subst (λ (turns : List Turn). IsAt a turns [] c.in_ok-position.position) (sym c.new-2.ensures.items)
+          (at_first a c.in_ok-position.position c.in_ok-position.ensures.opening c.in_ok-position.ensures.place c.in_ok-position.ensures.know
+          c.in_ok-position.ensures.answers),
+    )
+
+pub rows_of-requires-clause-states : goal.rows_of-requires-clause-states
+rows_of-requires-clause-states g c =
+    let a = question c.args.script.now c.args.budget [] in
+    let first = c.in_ok-first.first in
+    let empty = c.in_ok-first.ensures.turns ∙ c.new-2.ensures.items in
+    let table = c.in_ok-counts.field-0 in
+    let ending : EndState → _ = λ s. s.ending in
+    let told = whole_told (λ u next t. GoesBy a u next t) ending first table c.in-Whole.counts c.in-Whole.is c.in_ok-counts.ensures.counted in
+    states_right a first c.in_ok-first.ensures.state empty c.in-Whole.counts told.0 told.1
+    (whole_shortest (GoesOnBy a) ending first table c.in-Whole.counts c.in-Whole.is c.in_ok-counts.ensures.right)
+
+pub returns-in-Whole : goal.returns-in-Whole
+unfolding AreAllEndings
+returns-in-Whole g c =
+    let a = question c.args.script.now c.args.budget [] in
+    let first = c.in_ok-first.first in
+    let empty = c.in_ok-first.ensures.turns ∙ c.new-2.ensures.items in
+    let table = c.in_ok-counts.field-0 in
+    let ending : EndState → _ = λ s. s.ending in
+    let told = whole_told (λ u next t. GoesBy a u next t) ending first table c.in-Whole.counts c.in-Whole.is c.in_ok-counts.ensures.counted in
+    all_rows a refl first c.in_ok-first.ensures.state empty c.in-Whole.counts told.0 told.1 told.2
+    (whole_shortest (GoesOnBy a) ending first table c.in-Whole.counts c.in-Whole.is c.in_ok-counts.ensures.right)
+    c.in_ok-rows_of-in-Whole.field-0.items c.in_ok-rows_of-in-Whole.ensures
+
+pub returns : goal.returns
+unfolding AreAllEndings
+returns g c = tt

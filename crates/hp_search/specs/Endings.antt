@@ -1,0 +1,68 @@
+-- What a table of all endings says.
+use Rattle.std.specs.Prelude.{◌≡◌, ◌<◌, ◌≤◌, ℕ, List, All, Contains, length, slice_index_or}
+use Rattle.hp_base.specs.declared.event.Event.{Event}
+use Rattle.hp_watch.specs.Moments.{Moment, events_of}
+use Rattle.hp_layers.specs.Named.{AreApart}
+use Rattle.hp_layers.specs.Weighed.{IsAsMany}
+use Rattle.hp_every.specs.declared.turn.Turn.{Turn}
+use Rattle.hp_every.specs.Endings.{EndState, Ended, EndsSo, HasEnding, IsEndState, ended_at}
+use Rattle.hp_every.specs.Search.{HasTurns, Question}
+use Rattle.hp_layers.specs.declared.counting.RunCounts.{RunCounts}
+use Rattle.hp_search.specs.declared.endings.EndingRow.{EndingRow}
+use Rattle.hp_search.specs.declared.endings.EndingRows.{EndingRows}
+use Rattle.hp_search.specs.declared.endings.EndingRows.TheVariants.{Whole, Cut}
+
+-- the ending that a row tells
+abbrev pub ended_of : EndingRow → Ended
+ended_of row = record { answers = row.ended.items; free = row.free; resv = row.resv; used = row.used }
+
+-- the row is that of a schedule of these turns, and of so many
+pub record IsRowAt (a : Question) (turns : List Turn) (schedules : ℕ) (row : EndingRow) : Type 0 where
+  pub has : HasTurns a turns
+  pub made : events_of has.moments ≡ row.events.items
+  pub ended : ended_of row ≡ ended_at has.moments has.last.core
+  pub count : row.schedules ≡ schedules
+
+-- each of the states is that of a schedule, and has its number
+pub record AreStates (a : Question) (counts : RunCounts EndState) : Type 0 where
+  pub each : All (IsEndState a) counts.states.items
+  pub long : length counts.ways.items ≡ length counts.states.items
+
+-- each row is that of the state at its place
+pub record AreRowsOf (a : Question) (counts : RunCounts EndState) (rows : List EndingRow) : Type 0 where
+  pub long : length rows ≡ length counts.states.items
+  pub each : (k : ℕ) (s : EndState) (d : EndingRow) → k < length rows
+      → IsRowAt a (slice_index_or counts.states.items k s).path.turns (slice_index_or counts.ways.items k 0) (slice_index_or rows k d)
+
+-- the number is that of the lists of turns of which it holds: these are all of them, and no two are the same
+pub record IsNumberOf (P : List Turn → Type 0) (n : ℕ) : Type 0 where
+  pub all : List (List Turn)
+  pub apart : AreApart all
+  pub each : (turns : List Turn) → Contains all turns → P turns
+  pub none_else : (turns : List Turn) → P turns → Contains all turns
+  pub many : IsAsMany n (length all)
+
+-- the events are those of a schedule that ends so, and each that does has as many at least
+pub record IsShortestSo (a : Question) (e : Ended) (events : List Event) : Type 0 where
+  pub moments : List Moment
+  pub made : events_of moments ≡ events
+  pub ends : EndsSo a moments e
+  pub shortest : (others : List Moment) → EndsSo a others e → length moments ≤ length others
+
+-- a row has an ending, the events of a shortest schedule that ends so, and the number of all that do
+pub record IsRow (a : Question) (row : EndingRow) : Type 0 where
+  pub shortest : IsShortestSo a (ended_of row) row.events.items
+  pub number : IsNumberOf (HasEnding a (ended_of row)) row.schedules
+
+-- Each schedule to its end has its ending in one of the rows, and no two of them have the same.
+pub record AreAllRows (a : Question) (rows : List EndingRow) : Type 0 where
+  pub each : (k : ℕ) (d : EndingRow) → k < length rows → IsRow a (slice_index_or rows k d)
+  pub all : (moments : List Moment) (e : Ended) → EndsSo a moments e
+      → (k : ℕ) × (k < length rows) × ((d : EndingRow) → ended_of (slice_index_or rows k d) ≡ e)
+  pub one : (j k : ℕ) (d : EndingRow) → j < length rows → k < length rows
+      → ended_of (slice_index_or rows j d) ≡ ended_of (slice_index_or rows k d) → j ≡ k
+
+-- a table has all endings; or the limits ran out
+unfoldable pub AreAllEndings : Question → EndingRows → Type 0
+AreAllEndings a (Whole rows) = AreAllRows a rows.items
+AreAllEndings a (Cut turns) = Unit {0}

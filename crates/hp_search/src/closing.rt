@@ -1,0 +1,146 @@
+//! What a table of endings keeps of a schedule.
+ghost use Rattle.std.specs.Prelude.{◌≡◌, ◌++◌, ◌∷◌, [], List, All, IfOk, OnOk};
+ghost use Rattle.std.specs.List.{AllZip, flat_map};
+ghost use Rattle.hp_base.specs.declared.event.Event.{Event};
+ghost use Rattle.hp_watch.specs.Moments.{Moment};
+ghost use Rattle.hp_every.specs.Endings.{GoesBy, IsEnding, IsEndState, answers_in, answers_words, ended_call_words, ended_words};
+ghost use Rattle.hp_every.specs.Search.{MayGoOn};
+ghost use Rattle.hp_every.specs.declared.turn.Turn.{Turn};
+ghost use Rattle.hp_search.specs.Searching.{IsAt, IsQuery, ended_here, place_of, question_of};
+
+use crate::key::Key;
+use crate::path::{Made, Path, call_number, make_more, path_at};
+use crate::position::Position;
+use crate::query::Query;
+use hp_base::{Event, Op};
+use hp_every::Turn;
+use hp_key::{push_answer, push_wide};
+use hp_watch::EndedCall;
+use std::alloc::{AllocError, Global};
+use std::marker::Model;
+
+/// A schedule, what tells it apart by its answers, too, and how it ends, as words, if it has come to its end.
+#[derive(Drop)]
+pub(crate) struct EndPath {
+    pub(crate) path: Path,
+    pub(crate) key: Key,
+    pub(crate) ending: Option<Key>,
+}
+
+impl Model for EndPath {
+    ghost use Rattle.hp_every.specs.Endings.{EndState};
+
+    ghost Value = { EndState };
+
+    ghost view = { λ p. record { path = p.path; key = p.key; ending = p.ending } };
+}
+
+/// The calls that ended, as words.
+fn push_ended(words: &mut Vec<u32>, ended: &[EndedCall]) -> Result<(), AllocError>
+    ensures { OnOk result (words.new.items ≡ words.old.items ++ flat_map ended_call_words ended.now) }
+{
+    for call in ended {
+        words.push(call.task.number())?;
+        words.push(call_number(call.call))?;
+        push_answer(words, call.answer)?;
+    }
+    Ok(())
+}
+
+/// How many calls ended, and which, as words.
+fn push_answers(words: &mut Vec<u32>, ended: &[EndedCall]) -> Result<(), AllocError>
+    ensures { OnOk result (words.new.items ≡ words.old.items ++ answers_words ended.now) }
+{
+    push_wide(words, ended.len() as u64)?;
+    push_ended(words, ended)?;
+    Ok(())
+}
+
+/// The answers and the key of the place, as one key.
+fn end_key(alloc: Global, position: &Position, key: &Key) -> Result<Key, AllocError>
+    ensures { IfOk result (λ longer. longer ≡ answers_words position.now.answers.ended.items ++ key.now) }
+{
+    let mut words = Vec::with_capacity(alloc, key.words.len())?;
+    push_answers(&mut words, &position.answers.ended)?;
+    words.extend_from_slice(&key.words)?;
+    Ok(Key { words })
+}
+
+/// How a schedule ends that stands there, as words.
+fn ended_key(alloc: Global, position: &Position) -> Result<Key, AllocError>
+    ensures { IfOk result (λ key. key ≡ ended_words (ended_here position.now)) }
+{
+    let core = position.walk.core();
+    let mut words = Vec::new(alloc);
+    words.push(core.free())?;
+    words.push(core.resv())?;
+    words.push(core.used())?;
+    push_answers(&mut words, &position.answers.ended)?;
+    Ok(Key { words })
+}
+
+/// How a schedule ends that stands there, as words, if no turn may be made.
+fn ending_at(alloc: Global, query: Query, position: &Position) -> Result<Option<Key>, AllocError>
+    ensures { IfOk result (λ ending. (moments : List Moment) → position.now.answers.ended.items ≡ answers_in moments
+        → IsEnding query.entry.plan.now moments (place_of position.now) ending) }
+{
+    let turns = position.next_turns(alloc, query.plan)?;
+    if !turns.is_empty() {
+        return Ok(None);
+    }
+    let key = ended_key(alloc, position)?;
+    Ok(Some(key))
+}
+
+/// The schedule of these turns, which stands there.
+pub(crate) fn end_path_at(
+    alloc: Global,
+    query: Query,
+    turns: Vec<Turn>,
+    position: &Position,
+) -> Result<EndPath, AllocError>
+    requires planned { IsQuery query }
+    requires at { (events : List Event) × IsAt (question_of query) turns.items events position.now }
+    ensures state { IfOk result (IsEndState (question_of query.entry)) }
+    ensures turns { IfOk result (λ s. s.path.turns ≡ turns.items) }
+{
+    let path = path_at(alloc, query, turns, position)?;
+    let key = end_key(alloc, position, &path.key)?;
+    let ending = ending_at(alloc, query, position)?;
+    Ok(EndPath { path, key, ending })
+}
+
+/// The schedule with one turn more.
+fn end_path_behind(
+    alloc: Global,
+    query: Query,
+    from: &EndPath,
+    turn: Turn,
+) -> Result<EndPath, AllocError>
+    requires planned { IsQuery query }
+    requires may { MayGoOn (question_of query) from.now.path.turns turn }
+    ensures { IfOk result (GoesBy (question_of query.entry) from.now turn) }
+{
+    let Made { turns, position } = make_more(alloc, query, &from.path.turns, turn)?;
+    end_path_at(alloc, query, turns, &position)
+}
+
+/// The schedules with one of these turns more.
+pub(crate) fn end_paths_behind(
+    alloc: Global,
+    query: Query,
+    from: &EndPath,
+    turns: &[Turn],
+) -> Result<Vec<EndPath>, AllocError>
+    requires planned { IsQuery query }
+    requires may { All (MayGoOn (question_of query) from.now.path.turns) turns.now }
+    ensures { IfOk result (λ next. AllZip (GoesBy (question_of query.entry) from.now) turns.now next.items) }
+{
+    // The checker of borrows asks for a mention of the types that an event may hold.
+    let _none: (Option<Event>, Option<Op>) = (None, None);
+    let mut next = Vec::with_capacity(alloc, turns.len())?;
+    for turn in turns {
+        next.push(end_path_behind(alloc, query, from, *turn)?)?;
+    }
+    Ok(next)
+}
