@@ -1,1 +1,4 @@
 mod Taken
+mod Laid
+mod Again
+mod Taking

@@ -1,6 +1,6 @@
 -- How lines are taken, one after the other.
-use Rattle.std.proofs.Common.{◌≡◌, ◌+◌, ◌∷◌, [], ◌⊎◌, inl, inr, ℕ, Bool, List, Option, Some, None, sym, ◌∙◌, refl}
-use Rattle.std.specs.Prelude.{Result, Ok, Err, IfOk, IfErr}
+use Rattle.std.proofs.Common.{◌≡◌, ◌+◌, ◌∷◌, [], ◌⊎◌, inl, inr, ℕ, List, Some, None, sym, ◌∙◌, refl}
+use Rattle.std.specs.Prelude.{Result, Err}
 use Rattle.hp_text.specs.declared.fault.ReplayFault.TheVariants.{Memory}
 use Rattle.hp_picture.specs.Pictures.{DraftState, PlacesState, next, taken, finished, IsFaultOf}
 use Rattle.hp_picture.specs.declared.picture.Counts.{Counts}

@@ -1,8 +1,8 @@
-use Rattle.std.proofs.Common.{◌≡◌, ℕ, length, true, [], arith, rules, eqb-true, sym, ◌∙◌}
-use Rattle.std.specs.Prelude.{IfErr, IfOk, Some}
+use Rattle.std.proofs.Common.{◌≡◌, true, arith, rules, eqb-true, sym, ◌∙◌}
+use Rattle.std.specs.Prelude.{Some}
 use Rattle.std.proofs.lemmas.Result.{IfErr-weaker, IfOk-weaker}
 use Rattle.hp_text.specs.TextLines.{lines_of}
-use Rattle.hp_picture.specs.Pictures.{next, taken, finished, IsFaultOf}
+use Rattle.hp_picture.specs.Pictures.{next, taken}
 use Rattle.hp_text.proofs.TextLines.{no_line}
 use Rattle.hp_picture.proofs.Taken.{taken_more, taken_bad, taken_all, ended_bad}
 use Rattle.hp_picture.proofs.text.take_text.Goals as goal

@@ -1,4 +1,4 @@
-use Rattle.std.proofs.Common.{◌≡◌, ◌+◌, ◌≤◌, ℕ, length}
+use Rattle.std.proofs.Common.{◌≡◌, ◌+◌, ◌≤◌, length}
 use Rattle.hp_text.specs.TextLines.{lines_of}
 use Rattle.hp_picture.specs.Pictures.{taken}
 use Rattle.hp_picture.proofs.text.take_text.Given as goal

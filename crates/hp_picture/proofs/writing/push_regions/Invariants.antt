@@ -1,0 +1,9 @@
+use Rattle.std.proofs.Common.{map, take}
+use Rattle.std.specs.Prelude.{string_bytes}
+use Rattle.hp_picture.specs.Text.{region_line}
+use Rattle.hp_picture.proofs.Laid.{Laid}
+use Rattle.hp_picture.proofs.writing.push_regions.Given as goal
+
+abbrev pub invariant-loop-file : goal.invariant-loop-file
+invariant-loop-file l =
+    Laid (string_bytes l.fn.text) (string_bytes l.text) (map region_line (take l.file-index l.places.regions))
