@@ -103,7 +103,7 @@ pub fn reaches(goal: Goal, outcome: &Outcome) -> Result<bool, Reason>
 }
 
 /// A new pool to which these events happened.
-fn core_after(alloc: Global, config: Config, events: &[Event]) -> Result<Core, AllocError>
+pub fn core_after(alloc: Global, config: Config, events: &[Event]) -> Result<Core, AllocError>
     ensures { IfOk result (λ core. IsLed config core events.now) }
 {
     // The checker of borrows asks for a mention of the types that an event and an outcome may hold.

@@ -15,7 +15,7 @@ mod loosening;
 mod tidying;
 
 pub use asked::{Asked, Goal, asked_of};
-pub use draft::{Draft, Unadded, reaches};
+pub use draft::{Draft, Unadded, core_after, reaches};
 pub use fault::{LooseFault, Reason};
 pub use hp_phases::phase_named;
 pub use laws::{a_strict_trace_has_no_fault, a_strict_trace_stays};
