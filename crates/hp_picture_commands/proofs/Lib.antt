@@ -1,1 +1,3 @@
 mod Audited
+mod Flattened
+mod Written

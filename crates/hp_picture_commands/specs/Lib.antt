@@ -1,1 +1,3 @@
 pub mod Auditing
+pub mod Flat
+pub mod States

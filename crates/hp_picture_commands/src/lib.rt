@@ -1,9 +1,13 @@
-//! Commands that read a pool's state as text: `audit`.
+//! Commands for a pool's state as text: `audit` reads one, and `replay --picture` writes one.
 //!
-//! It stands on hp_picture, which reads the state, on hp_judge, which finds what is wrong with it, and on hp_program's frame for outputs.
-//! It promises what is answered, and what was read and written then (`Auditing.antt`). It knows no words of a command line.
+//! It stands on hp_picture, which reads and writes states, on hp_judge, which finds what is wrong with one, on hp_core, whose pools have
+//! them, and on hp_program's frame for outputs. It promises what is answered, and what was read and written then (`Auditing.antt`,
+//! `States.antt`). It knows no words of a command line.
 #![tactic(auto)]
 
 mod auditing;
+mod flattening;
+mod states;
 
 pub use auditing::run_audit;
+pub use states::run_state;
