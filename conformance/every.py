@@ -1,13 +1,14 @@
 #!/usr/bin/env python3
-"""Compares `hugepool find --every` with a search written apart (schedules.py), on small scripts.
+"""Compares `hugepool find --every` and `explore --every` with a search written apart (schedules.py), on small scripts.
 
 usage: every.py [--scripts N] [--seed N] [--states N] [--program PATH]
 
 A few scripts are fixed, and N are random. Each is searched with no denial and no kill, with one denial, and with one
 kill. Asked is for each answer that some call may give, some that none gives, final counts, each task that waits, some
 phases that meet, counts at answers, pairs of these, alternatives, and what is not to be found. Both have to say the same:
-whether a schedule meets them, and in how many events. The trace has to be a schedule of the search, and no random run that `find` finds may be shorter. The status is 1
-after a difference.
+whether a schedule meets them, and in how many events. The trace has to be a schedule of the search, and no random run
+that `find` finds may be shorter. Tables of endings have to be the same, with how many schedules end so and the fewest
+events; the numbers in answers are left out, since the search knows no words of pages. The status is 1 after a difference.
 """
 import argparse
 import random
@@ -17,7 +18,7 @@ from collections import Counter
 from itertools import product
 
 from compare import tested
-from schedules import asked_of, counted_of, facts_of, holds, opening, read_script, search, turns
+from schedules import asked_of, counted_of, endings, facts_of, holds, opening, read_script, search, turns
 
 # denials and kills
 BUDGETS = ((0, 0), (1, 0), (0, 1))
@@ -168,6 +169,33 @@ def questions(dice, script, least):
     yield [(("answer", 1, 2, "done"),), (("final", f"resv={script.frames - 1}"),)]
 
 
+def table(program, text, budget):
+    """The program's endings, with the numbers in answers left out: how many schedules end so, and the fewest events."""
+    words = ["explore", "--every", *options(("--denials", "--kills"), budget)]
+    done = subprocess.run([program, *words], input=text, capture_output=True, text=True)
+    head, *lines = done.stdout.splitlines() or [""]
+    if done.returncode != 0 or head != f"endings {len(lines)}":
+        sys.exit(f"{' '.join(words)}: status {done.returncode}\n{done.stderr}{text}")
+    found = {}
+    for line in lines:
+        counts, *calls = [part.split() for part in line.split(" | ")]
+        _, schedules, _, turns_made, _, free, _, resv, _, used = counts
+        ending = (tuple((int(task), name, word) for task, name, word, *_ in calls), int(free), int(resv), int(used))
+        before, least = found.get(ending, (0, int(turns_made)))
+        found[ending] = (before + int(schedules), min(least, int(turns_made)))
+    return found
+
+
+def other_endings(program, text, budget, most):
+    """What differs between the tables of endings, or None; and how many there are, None where they are too many to look at."""
+    wanted = endings(read_script(text), budget, most)
+    if wanted is None:
+        return None, None
+    found = table(program, text, budget)
+    differs = [it for it in wanted.keys() | found.keys() if wanted.get(it) != found.get(it)]
+    return differs and f"ending {differs[0]}: {wanted.get(differs[0])}, the program {found.get(differs[0])}", len(wanted)
+
+
 def kind_of(question):
     if len(question) > 1:
         return "two"
@@ -184,6 +212,10 @@ def compare(program, text, dice, most, asked):
             asked["searches left out, too large"] += 1
             continue
         asked["states"] += states
+        what, rows = other_endings(program, text, budget, 10 * most)
+        asked["endings" if rows else "tables of endings left out, too large"] += rows or 1
+        if what:
+            yield f"denials and kills {budget}: {what}"
         for question in questions(dice, script, least):
             ((first, *_), *_) = question
             alone = kind_of(question) in ("answer", "final", "blocked", "meet")

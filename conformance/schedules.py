@@ -3,7 +3,7 @@
 Written from docs/MACHINE.md (sections 2 and 3) and docs/EXPLORING.md; every.py compares it with the program. Frames have
 no numbers here, and pages no words, since no condition names one: an entry is a virtual page, and the phase has the hand.
 """
-from collections import namedtuple
+from collections import Counter, namedtuple
 from itertools import product
 
 LIMIT, SPACE = 4096, 16384
@@ -463,3 +463,30 @@ def search(script, budget, most, question=(), known=None):
                     after.append(state)
         layer, depth = after, depth + 1
     return None if layer else least, len(seen)
+
+
+def with_answer(ended, answer):
+    """The calls that ended, task by task, with this one."""
+    if answer is None:
+        return ended
+    task, _, name, word = answer
+    return tuple(sorted((*ended, (task, name, word)), key=lambda it: it[0]))
+
+
+def endings(script, budget, most):
+    """Of each way to end (answers and counts) how many schedules end so, and in how many events; None beyond so many states."""
+    layer, depth, states, found = Counter({(opening(script, *budget), ()): 1}), 0, 0, {}
+    while layer and states <= most:
+        states += len(layer)
+        after = Counter()
+        for (frozen, ended), ways in layer.items():
+            following = list(turns(script, frozen))
+            if not following:
+                place = Place(frozen)
+                ending = (ended, place.free, place.resv, place.used)
+                schedules, least = found.get(ending, (0, depth))
+                found[ending] = (schedules + ways, least)
+            for _, there, answer in following:
+                after[there, with_answer(ended, answer)] += ways
+        layer, depth = after, depth + 1
+    return None if layer else found

@@ -19,6 +19,15 @@ pub(crate) const REPLAY_JSON: Choice = Choice {
     needs: &[],
 };
 
+pub(crate) const PICTURE: Choice = Choice {
+    name: "picture",
+    form: "",
+    takes: Takes::Nothing,
+    help: "Prints only the state, as text that hugepool audit reads; reads the whole trace first",
+    conflicts: &["json"],
+    needs: &[],
+};
+
 pub(crate) const JSON: Choice = Choice {
     name: "json",
     form: "",
@@ -214,6 +223,15 @@ pub(crate) const EVERY: Choice = Choice {
     takes: Takes::Nothing,
     help: "Searches all schedules instead of random runs: prints the shortest, or says that none meets the conditions",
     conflicts: &["limit", "seed", "deny", "kill"],
+    needs: &[],
+};
+
+pub(crate) const ALL: Choice = Choice {
+    name: "every",
+    form: "",
+    takes: Takes::Nothing,
+    help: "Prints all ways in which schedules end, and how many schedules end so, in place of random runs",
+    conflicts: &["seed", "runs", "deny", "kill", "audit", "summary"],
     needs: &[],
 };
 

@@ -37,7 +37,7 @@ const REPLAY: Row = Row {
     usage: "hugepool replay [OPTIONS] [FILE]",
     told: TRACES,
     operand: Operand::File,
-    choices: &[REPLAY_JSON, COLOR],
+    choices: &[REPLAY_JSON, PICTURE, COLOR],
 };
 
 pub(crate) const EXPLAIN: Row = Row {
@@ -64,7 +64,9 @@ pub(crate) const EXPLORE: Row = Row {
     usage: "hugepool explore [OPTIONS] [FILE]",
     told: SCRIPTS,
     operand: Operand::File,
-    choices: &[SEED, RUNS, DENY, KILL, AUDIT, SUMMARY, COLOR],
+    choices: &[
+        SEED, RUNS, DENY, KILL, AUDIT, SUMMARY, ALL, DENIALS, KILLS, STATES, COLOR,
+    ],
 };
 
 const CHECK: Row = Row {

@@ -17,6 +17,6 @@ mod view;
 
 pub use reading::read_words;
 pub use request::{
-    Asked, EverySearch, Input, PoolRequest, Racing, Request, Scheduling, ScriptRequest, Search,
-    TraceRequest, When,
+    Asked, EveryBounds, EverySearch, Input, PoolRequest, Racing, Request, Scheduling,
+    ScriptRequest, Search, TraceRequest, When,
 };

@@ -3,8 +3,8 @@ use crate::choices::SEED;
 use crate::commands::{EXPLORE, FIND, MINIMIZE, RACE, Row, SCHEDULE, invalid, program};
 use crate::conditions::read_conditions;
 use crate::request::{
-    Asked, EverySearch, Input, PoolRequest, Racing, Request, Scheduling, ScriptRequest, Search,
-    TraceRequest, When,
+    Asked, EveryBounds, EverySearch, Input, PoolRequest, Racing, Request, Scheduling,
+    ScriptRequest, Search, TraceRequest, When,
 };
 use crate::view::read_view;
 use clap::{ArgMatches, Error};
@@ -46,7 +46,18 @@ fn audit(given: &ArgMatches) -> Audit {
     }
 }
 
+fn bounds(given: &ArgMatches) -> EveryBounds {
+    EveryBounds {
+        denials: number(given, "denials", 0),
+        kills: number(given, "kills", 0),
+        states: number(given, "states", 1_000_000),
+    }
+}
+
 fn exploring(alloc: Global, given: &ArgMatches) -> Result<ScriptRequest, Error> {
+    if given.get_flag("every") {
+        return Ok(ScriptRequest::ExploreEvery(bounds(given)));
+    }
     let seed = seed(alloc, given, &EXPLORE)?;
     let (runs, chances) = (number(given, "runs", 10), chances(given));
     if given.get_flag("summary") {
@@ -75,10 +86,15 @@ fn scheduling(alloc: Global, given: &ArgMatches) -> Result<ScriptRequest, Error>
 fn finding(alloc: Global, given: &ArgMatches) -> Result<ScriptRequest, Error> {
     let conditions = read_conditions(alloc, given, &FIND)?;
     if given.get_flag("every") {
+        let EveryBounds {
+            denials,
+            kills,
+            states,
+        } = bounds(given);
         return Ok(ScriptRequest::FindEvery(EverySearch {
-            denials: number(given, "denials", 0),
-            kills: number(given, "kills", 0),
-            states: number(given, "states", 1_000_000),
+            denials,
+            kills,
+            states,
             conditions,
         }));
     }
@@ -126,6 +142,9 @@ fn explaining(alloc: Global, given: &ArgMatches) -> Result<TraceRequest, Error> 
 fn replaying(given: &ArgMatches) -> TraceRequest {
     if given.get_flag("json") {
         return TraceRequest::ExplainJson(View::whole());
+    }
+    if given.get_flag("picture") {
+        return TraceRequest::State;
     }
     TraceRequest::Replay
 }

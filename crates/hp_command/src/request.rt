@@ -32,6 +32,16 @@ pub struct EverySearch {
     pub conditions: Vec<Condition>,
 }
 
+/// Which schedules of a script are told by their endings.
+#[derive(Clone, Copy)]
+pub struct EveryBounds {
+    /// So many steps may be denied, and so many tasks killed, in each schedule.
+    pub denials: u32,
+    pub kills: u32,
+    /// So many states are kept at once, at most.
+    pub states: u32,
+}
+
 /// Which races of a script are run.
 #[derive(Clone, Copy)]
 pub enum Racing {
@@ -52,6 +62,8 @@ pub enum Racing {
 pub enum TraceRequest {
     /// To read it and run it.
     Replay,
+    /// To read it, and write the state at its end as a picture that can be audited.
+    State,
     /// To read it, and count its events.
     Check,
     /// To read it, and explain it.
@@ -73,6 +85,8 @@ pub enum ScriptRequest {
     Explore(Exploration),
     /// To read a script, and summarize its runs.
     Summarize(Survey),
+    /// To read a script, and write all ways in which its schedules end.
+    ExploreEvery(EveryBounds),
     /// To read a script, and write one run of it as a trace.
     Schedule(Scheduling),
     /// To read a script, and write a run of it that meets conditions as a trace.

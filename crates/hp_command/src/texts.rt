@@ -28,8 +28,12 @@ random, and begins its next call or makes a step of its call in flight. Run K is
 the same each time. A script whose header begins with script, in place of pool, can have lines
   after TASK
 before a begin of another task: that call begins once all calls of TASK on earlier lines have ended.
+With --every, explore prints a line for each way in which schedules end, of all orders in which the tasks can make their
+steps: how many schedules end so, the events of a shortest one, the counts, and each call with its answer. If the limit
+of --states is reached first, nothing is printed, and the status is 3.
 docs/TRACES.md and hugepool replay --help describe traces. Examples:
   hugepool explore --seed 7 --runs 3 examples/truncate-against-store.script
+  hugepool explore --every examples/truncate-against-fault.script
   hugepool schedule --seed 7 examples/truncate-against-store.script | hugepool replay";
 
 /// Of the loose form.

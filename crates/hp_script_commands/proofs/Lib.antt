@@ -2,3 +2,4 @@ mod Answering
 mod Hunted
 mod Scheduled
 mod Searched
+pub mod Tabled

@@ -3,3 +3,4 @@ pub mod Racing
 pub mod Runs
 pub mod Searching
 pub mod Summing
+pub mod Tabling

@@ -1,4 +1,4 @@
-//! Commands that run a script, and those that search: `explore`, `schedule`, `find` with and without `--every`, `minimize` and `race`.
+//! Commands that run a script, and those that search: `explore` and `find` with and without `--every`, `schedule`, `minimize` and `race`.
 //!
 //! It stands on the crates that explore, search and race, on hp_program's frame for outputs, and on hp_command for what is asked. It
 //! promises of each command what is answered, and what was read and written then (`Runs.antt`, `Hunting.antt`, `Racing.antt`,
@@ -13,6 +13,7 @@ mod racing;
 mod scheduling;
 mod searching;
 mod summarizing;
+mod tabling;
 
 pub use exploring::run_explore;
 pub use finding::run_find;
@@ -22,3 +23,4 @@ pub use racing::run_race;
 pub use scheduling::run_schedule;
 pub use searching::run_find_every;
 pub use summarizing::run_summarize;
+pub use tabling::run_explore_every;

@@ -22,7 +22,7 @@ use std::io::Write;
 use std::time::Clock;
 
 /// No schedule has as many turns: an explored run is ended there, too.
-const MOST_TURNS: u32 = 1_000_000;
+pub(crate) const MOST_TURNS: u32 = 1_000_000;
 
 // Writes the trace of a schedule that was found.
 fn write_shortest<W: Sink>(

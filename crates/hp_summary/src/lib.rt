@@ -15,5 +15,5 @@ mod tally;
 pub use facts::RunFacts;
 pub use gathering::Survey;
 pub use summary::{Summary, summarize};
-pub use summary_text::write_summary;
+pub use summary_text::{push_calls, write_summary};
 pub use tally::Ending;

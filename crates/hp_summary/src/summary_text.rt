@@ -108,8 +108,8 @@ fn push_call(call: EndedCall, text: &mut String) -> Result<(), AllocError>
     write!(text, " | {task} {call} {answer}")
 }
 
-/// Lays out the calls that ended.
-fn push_calls(ended: &[EndedCall], text: &mut String) -> Result<(), AllocError>
+/// Lays out calls that ended: ` | T CALL ANSWER` for each.
+pub fn push_calls(ended: &[EndedCall], text: &mut String) -> Result<(), AllocError>
     ensures { OnOk result (string_bytes text.new ≡ string_bytes text.old ++ flat_map call_text ended.now) }
 {
     for call in ended {

@@ -24,6 +24,7 @@ palette_of_racing (racing.Trace chances) = None
 -- pictures, pages, traces, counts and lines of JSON have no words to be coloured
 abbrev pub palette_of_trace : TraceRequest → Option Palette
 palette_of_trace trace.Replay = Some Outcomes
+palette_of_trace trace.State = None
 palette_of_trace trace.Check = None
 palette_of_trace (trace.Explain view) = Some Outcomes
 palette_of_trace (trace.ExplainJson view) = None
@@ -37,6 +38,7 @@ palette_of_script (script.Explore exploration) = Some Runs
 palette_of_script (script.Summarize survey) = Some Outcomes
 palette_of_script (script.Schedule scheduling) = None
 palette_of_script (script.Find search) = None
+palette_of_script (script.ExploreEvery bounds) = None
 palette_of_script (script.FindEvery search) = None
 palette_of_script (script.Minimize conditions) = None
 palette_of_script (script.Race r) = palette_of_racing r

@@ -14,6 +14,7 @@ use Rattle.hp_command.specs.declared.request.ScriptRequest.TheVariants as script
 use Rattle.hp_command.specs.declared.request.PoolRequest.{PoolRequest}
 use Rattle.hp_command.specs.declared.request.PoolRequest.TheVariants as pool
 use Rattle.hp_picture_commands.specs.Auditing.{AnsweredAudit, status_of_audit}
+use Rattle.hp_picture_commands.specs.States.{AnsweredState}
 use Rattle.hp_pool_commands.specs.Stepping.{AnsweredStep}
 use Rattle.hp_pool_commands.specs.Working.{AnsweredTrace, AnsweredWork, status_of_work}
 use Rattle.hp_program.specs.Answers.{IfThere, status_of_runs, status_of_text}
@@ -21,6 +22,7 @@ use Rattle.hp_program.specs.Endings.{DidReplay}
 use Rattle.hp_script_commands.specs.Hunting.{AnsweredFind, AnsweredMinimize, status_of_hunt}
 use Rattle.hp_script_commands.specs.Runs.{AnsweredExplore, AnsweredRace, AnsweredSchedule, AnsweredSummary}
 use Rattle.hp_script_commands.specs.Searching.{AnsweredEvery, status_of_every}
+use Rattle.hp_script_commands.specs.Tabling.{AnsweredTable}
 use Rattle.hp_text.specs.declared.fault.ReplayFault.{ReplayFault}
 use Rattle.hp_text.specs.declared.fault.ReplayFault.TheVariants.{Write}
 use Rattle.hp_trace_commands.specs.Formatting.{AnsweredFormat, status_of_format}
@@ -38,6 +40,8 @@ abbrev pub EndsTrace : TraceRequest → (status : ℕ) → (from to : Option (Li
     → (before : Option (List ℕ)) → (after : Option (Option (List ℕ))) → Type 0
 EndsTrace trace.Replay status from to old new before after =
     EndsWith status_of_text status (λ answer. DidReplay answer from to old new before after)
+EndsTrace trace.State status from to old new before after =
+    EndsWith status_of_text status (λ answer. AnsweredState answer from to old new before after)
 EndsTrace trace.Check status from to old new before after =
     EndsWith status_of_text status (λ answer. AnsweredCheck answer from to old new before after)
 EndsTrace (trace.Explain v) status from to old new before after =
@@ -62,6 +66,8 @@ EndsScript (script.Schedule s) status from to old new before after =
     EndsWith status_of_text status (λ answer. AnsweredSchedule s answer from to old new before after)
 EndsScript (script.Find s) status from to old new before after =
     EndsWith status_of_hunt status (λ answer. AnsweredFind s answer from to old new before after)
+EndsScript (script.ExploreEvery b) status from to old new before after =
+    (cut : Option ℕ) × EndsWith (status_of_every cut) status (λ answer. AnsweredTable b cut answer from to old new before after)
 EndsScript (script.FindEvery s) status from to old new before after =
     (cut : Option ℕ) × EndsWith (status_of_every cut) status (λ answer. AnsweredEvery s cut answer from to old new before after)
 EndsScript (script.Minimize conditions) status from to old new before after =

@@ -8,15 +8,15 @@ ghost use Rattle.hugepool.specs.Status.{status_at};
 
 use crate::stop::{
     Missed, Stop, stop_of_audit, stop_of_every, stop_of_format, stop_of_hunt, stop_of_runs,
-    stop_of_text, stop_of_work,
+    stop_of_table, stop_of_text, stop_of_work,
 };
 use hp_command::{PoolRequest, Request, ScriptRequest, TraceRequest};
-use hp_picture_commands::run_audit;
+use hp_picture_commands::{run_audit, run_state};
 use hp_pool_commands::{WorkWords, run_step, run_trace_work, run_work};
 use hp_program::run_replay;
 use hp_script_commands::{
-    Report, run_explore, run_find, run_find_every, run_minimize, run_race, run_schedule,
-    run_summarize,
+    Report, run_explore, run_explore_every, run_find, run_find_every, run_minimize, run_race,
+    run_schedule, run_summarize,
 };
 use hp_text::{ReplayFault, Source};
 use hp_trace_commands::{run_check, run_draw, run_explain, run_explain_json, run_format, run_page};
@@ -69,6 +69,7 @@ fn answer_trace<R: Source, W: Write + Drop>(
 {
     match request {
         TraceRequest::Replay => text(run_replay(alloc, reader, out)),
+        TraceRequest::State => text(run_state(alloc, reader, out)),
         TraceRequest::Check => text(run_check(alloc, reader, out)),
         TraceRequest::Explain(view) => text(run_explain(alloc, &view, reader, out)),
         TraceRequest::ExplainJson(view) => text(run_explain_json(alloc, &view, reader, out)),
@@ -102,6 +103,11 @@ fn answer_script<H: Clock + Threads + Wait + Sync, R: Source, W: Write + Drop>(
             run_summarize(rt, alloc, survey, reader, out, faults),
             Missed::Ends,
         ),
+        ScriptRequest::ExploreEvery(bounds) => {
+            let mut cut = None;
+            let (done, out) = run_explore_every(rt, alloc, bounds, reader, out, &mut cut, faults);
+            (stop_of_table(done, cut), out)
+        }
         ScriptRequest::Schedule(scheduling) => {
             text(run_schedule(alloc, scheduling, reader, out, faults))
         }

@@ -24,7 +24,8 @@ fn palette_of_trace(request: &TraceRequest) -> Option<Palette>
 {
     match request {
         TraceRequest::Replay | TraceRequest::Explain(_) => Some(Palette::Outcomes),
-        TraceRequest::Check
+        TraceRequest::State
+        | TraceRequest::Check
         | TraceRequest::ExplainJson(_)
         | TraceRequest::Draw
         | TraceRequest::Page
@@ -41,6 +42,7 @@ fn palette_of_script(request: &ScriptRequest) -> Option<Palette>
         ScriptRequest::Summarize(_) => Some(Palette::Outcomes),
         ScriptRequest::Race(Racing::Times { .. }) => Some(Palette::Races),
         ScriptRequest::Race(Racing::Trace { .. })
+        | ScriptRequest::ExploreEvery(_)
         | ScriptRequest::Schedule(_)
         | ScriptRequest::Find(_)
         | ScriptRequest::FindEvery(_)

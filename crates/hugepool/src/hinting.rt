@@ -245,7 +245,9 @@ fn of_trace(request: &TraceRequest) -> Hints {
     let (reads, shows_run) = match request {
         TraceRequest::Replay | TraceRequest::Explain(_) | TraceRequest::Draw | TraceRequest::Page =>
             (Reads::Trace, true),
-        TraceRequest::Check | TraceRequest::ExplainJson(_) => (Reads::Trace, false),
+        TraceRequest::State | TraceRequest::Check | TraceRequest::ExplainJson(_) => {
+            (Reads::Trace, false)
+        }
         TraceRequest::Format => (Reads::Other, false),
     };
     Hints {

@@ -34,6 +34,9 @@ pub(crate) enum Stop {
     /// The limits ran out: no schedule of fewer events meets the conditions.
     #[error("hugepool: the limit of --states was reached: no schedule of fewer than {0} events meets all conditions\n")]
     Cut(u32),
+    /// The limits ran out: endings of schedules of as many events may be missing.
+    #[error("hugepool: the limit of --states was reached: not all schedules of {0} and more events were looked at\n")]
+    CutTable(u32),
 }
 
 /// What was asked for, and isn't so.
@@ -63,7 +66,7 @@ impl Stop {
     {
         match self {
             Stop::Usage(_) | Stop::Untold(_) | Stop::Picture(_) => 2,
-            Stop::Cut(_) => 3,
+            Stop::Cut(_) | Stop::CutTable(_) => 3,
             Stop::Replay(_) | Stop::Missed(_) | Stop::Loose(_) => 1,
             Stop::Work(fault) => fault.status(),
         }
@@ -107,6 +110,16 @@ pub(crate) fn stop_of_every(answer: Result<bool, ReplayFault>, cut: Option<u32>)
 {
     match (answer, cut) {
         (Ok(false), Some(turns)) => Err(Stop::Cut(turns)),
+        (answer, _) => stop_of_hunt(answer, Missed::Schedules),
+    }
+}
+
+/// Of a table of the endings of all schedules.
+pub(crate) fn stop_of_table(answer: Result<bool, ReplayFault>, cut: Option<u32>) -> Result<(), Stop>
+    ensures { status_at result ≡ status_of_every cut answer }
+{
+    match (answer, cut) {
+        (Ok(false), Some(turns)) => Err(Stop::CutTable(turns)),
         (answer, _) => stop_of_hunt(answer, Missed::Schedules),
     }
 }
