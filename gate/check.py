@@ -54,6 +54,7 @@ GROUPS = {
         Script("gate/sweep.py", ("cargo",)),
         Script("gate/examples.py"),
         Script("gate/showing.py"),
+        Script("gate/states.py"),
         Script("gate/test_launcher.py"),
         Script("gate/documents.py --shown"),
         Script("bench/fuzz.sh 10 1", ("cargo",)),

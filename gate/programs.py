@@ -18,8 +18,8 @@ sys.path.append(str(TOP / "launcher"))
 # words with which each command writes something, by what it reads
 WORDS = {
     "trace": (
-        *("replay", "replay --json", "explain", "explain --compact --linux --tasks 1 --lines 2..3", "explain --json --lines 2..3", "draw"),
-        *("draw --html", "check", "format", "minimize --final resv=0 --anywhere", "step"),
+        *("replay", "replay --json", "replay --picture", "explain", "explain --compact --linux --tasks 1 --lines 2..3"),
+        *("explain --json --lines 2..3", "draw", "draw --html", "check", "format", "minimize --final resv=0 --anywhere", "step"),
     ),
     "script": (
         *("explore --runs 2", "explore --summary --runs 2", "schedule", "race --times 2", "race --trace"),
