@@ -11,5 +11,5 @@ fi
 flags=(-std=gnu11 -D_GNU_SOURCE -O2 -Wall -Wextra -Wshadow -Wstrict-prototypes -Wmissing-prototypes -static)
 mkdir -p "$folder"
 cd "$here"
-"$compiler" "${flags[@]}" -o "$folder/record" record.c run.c script.c kernel.c task.c calls.c race.c pause.c fail.c
+"$compiler" "${flags[@]}" -o "$folder/record" record.c run.c script.c kernel.c task.c calls.c race.c hold.c deny.c serve.c pause.c fail.c
 "$compiler" "${flags[@]}" -o "$folder/init" init.c

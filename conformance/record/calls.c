@@ -150,8 +150,7 @@ static struct mapping *beginning_at(struct desk *desk, uint64_t base)
     return NULL;
 }
 
-/* The mapping in which a page lies, or NULL. */
-static const struct mapping *mapping_of(const struct desk *desk, uint64_t page)
+const struct mapping *mapping_of(const struct desk *desk, uint64_t page)
 {
     for (unsigned k = 0; k < desk->mappings; k++)
         if (page >= desk->mapping[k].base && page - desk->mapping[k].base < desk->mapping[k].pages)

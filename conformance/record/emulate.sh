@@ -4,6 +4,7 @@ set -euo pipefail
 
 usage="usage: emulate.sh [OPTION ..] SCRIPTS ..
        emulate.sh [OPTION ..] --run PROGRAM [WORDS ..]
+       emulate.sh [OPTION ..] --stay
 
 Builds the recorder, runs it on the scripts in an emulated machine, and writes what its kernel answered to standard
 output. The kernel of the machine that it runs on is left alone, and nobody has to be root.
@@ -12,6 +13,9 @@ output. The kernel of the machine that it runs on is left alone, and nobody has 
                 the last line is 'N passed, M failed', of files
   --run PROGRAM runs this statically linked program there, as root, instead of the recorder, and ends with its status;
                 it has to write a line that begins with 'reproducer: ' to standard error before it does anything
+  --stay        boots a machine whose recorder takes scripts by a serial line, a socket in TMPDIR/emulate-*/asked, up to a line 'go',
+                again and again; what it answers is in recorded beside it, and ends with 'served STATUS'. Its monitor is a socket
+                there, too, and it can keep its state ('savevm'). It stays until this program is ended
   --install     installs the packages that are missing (as root, or by sudo) and fetches the kernel's, which is
                 unpacked into a folder of its own and not installed
   --kernel FILE emulates with this kernel (vmlinuz)
@@ -33,7 +37,7 @@ Status: 0 all is recorded; 1 something failed, or differs; 2 a wrong word or scr
 here=$(cd "$(dirname "$(readlink -f "${BASH_SOURCE[0]}")")" && pwd)
 cache=${KIRVESSA_CACHE:-${XDG_CACHE_HOME:-$HOME/.cache}/kirvessa}
 package=linux-image-cloud-amd64
-kernel='' cpus=2 memory=768 seconds=900 boot_seconds=120 accel='' is_again='' is_install='' is_pausing='' is_leaving='' append='' program=''
+kernel='' cpus=2 memory=768 seconds=900 boot_seconds=120 accel='' is_again='' is_install='' is_pausing='' is_leaving='' is_staying='' append='' program=''
 files=()
 
 say() { echo "emulate: $*" >&2; }
@@ -55,6 +59,7 @@ read_words() {
         --install) is_install=1 ;;
         --pause) is_pausing=1 ;;
         --leave) is_leaving=1 ;;
+        --stay) is_staying=1 ;;
         --append) append=$2; shift ;;
         --kernel) kernel=$2; shift ;;
         --package) package=$2; shift ;;
@@ -75,7 +80,7 @@ read_words() {
 # the packages that have what isn't on the PATH
 missing_packages() {
     local pair
-    for pair in cc:build-essential qemu-system-x86_64:qemu-system-x86 cpio:cpio timeout:coreutils python3:python3; do
+    for pair in cc:build-essential qemu-system-x86_64:qemu-system-x86 ${is_staying:+qemu-img:qemu-utils} cpio:cpio timeout:coreutils setpriv:util-linux python3:python3; do
         command -v "${pair%%:*}" > /dev/null || echo "${pair#*:}"
     done
 }
@@ -183,19 +188,21 @@ await_machine() {
     machine=''
 }
 
-# (Where rep stosb is announced as fast (erms), the kernel clears pages with it, and an emulated processor is slow at that: without it a
+# (Whatever ends this program, the machine ends with it, by setpriv. Where rep stosb is announced as fast (erms), the kernel clears pages with it, and an emulated processor is slow at that: without it a
 # race takes a third of the time. The console has warnings, too, a kernel that oopses stops, and a task that hangs for a minute is
 # reported; a kernel without these numbers says so, and goes on.) What is recorded is in $work/recorded then, what the recorder told in $work/told, what the kernel told in $work/console.
 boot_once() {
-    local stopping=()
+    local stopping=() staying=()
     [ -z "$is_pausing" ] || stopping=(-device pvpanic -action panic=pause -qmp "unix:$work/monitor,server=on,wait=off")
+    [ -z "$is_staying" ] || staying=(-drive "if=none,format=qcow2,file=$work/state" -qmp "unix:$work/monitor,server=on,wait=off")
     [ -z "$is_leaving" ] || cat "$work/console" >> "$work/consoles" 2> /dev/null || true
     rm -f "$work"/{recorded,told,console,monitor}
     touch "$work"/{recorded,told,console}
-    timeout "$seconds" qemu-system-x86_64 -machine pc -accel "$accel" -cpu max,-erms -m "$memory" -smp "$cpus" \
-        -nodefaults -no-user-config -display none -no-reboot -kernel "$kernel" -initrd "$work/initramfs" "${stopping[@]}" \
+    setpriv --pdeathsig TERM timeout "$seconds" qemu-system-x86_64 -machine pc -accel "$accel" -cpu max,-erms -m "$memory" -smp "$cpus" \
+        -nodefaults -no-user-config -display none -no-reboot -kernel "$kernel" -initrd "$work/initramfs" "${stopping[@]}" "${staying[@]}" \
         -append "console=ttyS0 loglevel=5 oops=panic sysctl.kernel.hung_task_timeout_secs=60 panic=-1 no_timer_check $append -- $*" \
-        -serial file:"$work/console" -serial file:"$work/recorded" -serial file:"$work/told" < /dev/null >&2 &
+        -serial file:"$work/console" -serial file:"$work/recorded" -serial file:"$work/told" ${is_staying:+-serial "unix:$work/asked,server=on,wait=off"} \
+        < /dev/null >&2 &
     machine=$!
     await_machine
     grep -v '^status ' "$work/told" >&2 || true
@@ -271,6 +278,11 @@ run_program() {
     return "$(sed -n 's/^status //p' "$work/told")"
 }
 
+# Boots a machine that stays until this program is ended.
+stay() {
+    pack "$work/built/record" && qemu-img create -q -f qcow2 "$work/state" 1M && boot --serve /dev/ttyS3
+}
+
 check_words() {
     [ ${#files[@]} -gt 0 ] || { [ -n "$is_install" ] && exit 0; } || misuse "which scripts?"
     "$work/built/record" --check "${files[@]}" > "$work/checked" || exit $?
@@ -292,6 +304,10 @@ choose_accel
 "$here/build.sh" "$work/built"
 if [ -n "$program" ]; then
     run_program "${files[@]}"
+    exit $?
+fi
+if [ -n "$is_staying" ]; then
+    stay
     exit $?
 fi
 check_words

@@ -81,14 +81,14 @@ static struct call draw_call(const struct desk *desk, enum operation operation, 
 
     switch (operation) {
     case OP_UNMAP:
-        return (struct call){operation, {mapping->base}};
+        return (struct call){operation, {mapping->base}, {0, 0}};
     case OP_LOAD:
     case OP_STORE:
-        return (struct call){operation, {mapping->base + draw(seed, mapping->pages), word}};
+        return (struct call){operation, {mapping->base + draw(seed, mapping->pages), word}, {0, 0}};
     case OP_TRUNC:
-        return (struct call){operation, {file, from}};
+        return (struct call){operation, {file, from}, {0, 0}};
     default:
-        return (struct call){operation, {file, from, pages}};
+        return (struct call){operation, {file, from, pages}, {0, 0}};
     }
 }
 
@@ -105,17 +105,52 @@ static bool count_answer(const char *answer, uint64_t *counts)
     return false;
 }
 
-static void tell_counts(struct desk *desk, const uint64_t *counts)
+static void tell_counts(struct desk *desk, const uint64_t *counts, uint64_t beside)
 {
     char *to = desk->answer, *end = desk->answer + sizeof desk->answer;
 
-    to += snprintf(to, end - to, "raced");
+    to += snprintf(to, end - to, "raced beside %" PRIu64, beside);
     for (unsigned k = 0; k < ANSWERS && to < end; k++)
         to += snprintf(to, end - to, " %s %" PRIu64, known_answers[k], counts[k]);
 }
 
+/* How many pages a call may place, and of which file: a touch one, an allocation those of its range. */
+static uint64_t places(const struct desk *desk, unsigned *file)
+{
+    const struct mapping *mapping;
+
+    switch (desk->call.operation) {
+    case OP_LOAD:
+    case OP_STORE:
+        mapping = mapping_of(desk, desk->call.numbers[0]);
+        *file = mapping ? mapping->file : 0;
+        return mapping != NULL;
+    case OP_ALLOC:
+    case OP_ALLOCK:
+        *file = desk->call.numbers[0];
+        return desk->call.numbers[2];
+    default:
+        return 0;
+    }
+}
+
+/* Makes the call on the desk. Returns how many pages it may have placed while a truncation of their file ran: Linux can lose a
+ * reservation for each of these, and for no other. */
+static uint64_t make_beside(struct desk *desk, struct files files)
+{
+    unsigned file = 0;
+    uint64_t pages = places(desk, &file), ended = files.board->ended[file];
+    bool is_truncation = desk->call.operation == OP_TRUNC;
+
+    file = is_truncation ? desk->call.numbers[0] : file;
+    files.board->begun[file] += is_truncation;
+    make_call(desk, files);
+    files.board->ended[file] += is_truncation;
+    return files.board->begun[file] != ended ? pages : 0;
+}
+
 /* Makes one call of a race, and counts its answer. Where there is none to make, or the answer is odd, it tells so instead. */
-static bool race_once(struct desk *desk, struct files files, const struct call *asked, uint64_t *seed, uint64_t *counts)
+static bool race_once(struct desk *desk, struct files files, const struct call *asked, uint64_t *seed, uint64_t *counts, uint64_t *beside)
 {
     enum operation operation;
     char odd[64];
@@ -126,7 +161,7 @@ static bool race_once(struct desk *desk, struct files files, const struct call *
     }
     operation = draw_operation(desk, asked->numbers[RACE_KINDS], seed);
     desk->call = draw_call(desk, operation, files.count, asked->numbers[RACE_SPAN], seed);
-    make_call(desk, files);
+    *beside += make_beside(desk, files);
     if (count_answer(desk->answer, counts))
         return true;
     snprintf(odd, sizeof odd, "%.60s", desk->answer);
@@ -137,10 +172,10 @@ static bool race_once(struct desk *desk, struct files files, const struct call *
 void race(struct desk *desk, struct files files)
 {
     const struct call asked = desk->call;
-    uint64_t seed = asked.numbers[RACE_SEED], counts[ANSWERS] = {0};
+    uint64_t seed = asked.numbers[RACE_SEED], counts[ANSWERS] = {0}, beside = 0;
 
     for (uint64_t k = 0; k < asked.numbers[RACE_CALLS]; k++)
-        if (!race_once(desk, files, &asked, &seed, counts))
+        if (!race_once(desk, files, &asked, &seed, counts, &beside))
             return;
-    tell_counts(desk, counts);
+    tell_counts(desk, counts, beside);
 }

@@ -16,18 +16,22 @@
 #include "pause.h"
 #include "run.h"
 #include "script.h"
+#include "serve.h"
 
 static const char usage[] =
     "usage: record [--check] [--race] [--pause] [--from N] SCRIPTS ..\n"
+    "       record --serve FILE\n"
     "\n"
     "Makes the calls of the scripts on this kernel's hugetlbfs, and writes what it answers.\n"
     "Root alone can do so. The number of huge pages is changed meanwhile, and put back at the end.\n"
     "\n"
     "  --check   only reads the scripts\n"
-    "  --race    lets tasks race, and starts truncations beside other calls; after that the kernel's reserve count\n"
-    "            may be wrong until the next boot\n"
+    "  --race    lets tasks race, holds calls, denies them memory, and starts truncations beside other calls; after that the\n"
+    "            kernel's reserve count may be wrong until the next boot\n"
     "  --pause   stops an emulated machine behind each race, until somebody has it go on (QEMU's pvpanic)\n"
     "  --from N  leaves out the first N scripts\n"
+    "  --serve FILE  reads scripts from this file, again and again, each time up to a line 'go', records them as --race has it, and\n"
+    "            writes 'served STATUS' behind them\n"
     "\n"
     "A file that was recorded is one of scripts, too: the answers in it aren't read.\n"
     "Status: 0 all is recorded; 1 the machine lacks something, or a call failed; 2 a wrong word or script;\n"
@@ -36,6 +40,8 @@ static const char usage[] =
 struct words {
     bool is_check, may_race, may_pause;
     size_t from;
+    /* where scripts come from again and again, or NULL */
+    const char *served;
 };
 
 /* Tries to put things back so often, and waits so long between. */
@@ -69,7 +75,7 @@ static struct words read_words(int count, char **all)
 {
     static const struct option options[] = {
         {"check", no_argument, NULL, 'c'}, {"race", no_argument, NULL, 'r'}, {"pause", no_argument, NULL, 'p'},
-        {"from", required_argument, NULL, 'f'},
+        {"from", required_argument, NULL, 'f'}, {"serve", required_argument, NULL, 's'},
         {"help", no_argument, NULL, 'h'},  {NULL, 0, NULL, 0},
     };
     struct words words = {0};
@@ -83,6 +89,8 @@ static struct words read_words(int count, char **all)
             misuse("no such option");
         if (found == 'f')
             words.from = read_from(optarg);
+        if (found == 's')
+            words.served = optarg;
         words.is_check |= found == 'c';
         words.may_race |= found == 'r';
         words.may_pause |= found == 'p';
@@ -90,12 +98,13 @@ static struct words read_words(int count, char **all)
     return words;
 }
 
-/* Whether the kernel's reserve count may be wrong behind a line: tasks race, or a truncation runs beside other calls. */
+/* Whether the kernel's reserve count may be wrong behind a line: tasks race, a call is held or denied memory, or a truncation runs
+ * beside other calls. */
 static bool may_lose_count(const struct line *line)
 {
     enum operation operation = line->call.operation;
 
-    return line->kind == LINE_RACE || (line->kind == LINE_START && (operation == OP_TRUNC || operation == OP_X_FTRUNCATE));
+    return line->kind == LINE_RACE || line->kind == LINE_HOLD || line->kind == LINE_DENY || (line->kind == LINE_START && (operation == OP_TRUNC || operation == OP_X_FTRUNCATE));
 }
 
 /* The first line of a script behind which the count may be wrong, or NULL. */
@@ -246,6 +255,8 @@ int main(int count, char **all)
     struct words words = read_words(count, all);
     struct scripts scripts = {0};
 
+    if (words.served)
+        serve(words.served, (char *[]){all[0], "--race", SERVED, NULL});
     if (optind == count)
         misuse("which scripts?");
     for (int k = optind; k < count; k++)

@@ -8,13 +8,16 @@
 #include <stdio.h>
 #include <stdlib.h>
 #include <string.h>
+#include <sys/mman.h>
 #include <sys/mount.h>
 #include <sys/stat.h>
 #include <sys/statfs.h>
 #include <sys/utsname.h>
 #include <unistd.h>
 
+#include "deny.h"
 #include "fail.h"
+#include "hold.h"
 #include "kernel.h"
 #include "pause.h"
 #include "task.h"
@@ -39,6 +42,7 @@ struct pool {
     const char *mount_point;
     int open[MOST_FILES];
     struct task tasks[MOST_TASKS];
+    struct board *board;
     bool is_resized;
     struct entries entries;
 };
@@ -53,7 +57,7 @@ static void end_line(void)
 
 static struct files files_of(const struct pool *pool)
 {
-    return (struct files){pool->open, pool->script->files};
+    return (struct files){pool->open, pool->script->files, pool->board};
 }
 
 static void path_of(const struct pool *pool, unsigned file, char *path, size_t size)
@@ -110,11 +114,21 @@ static void remove_files(const struct pool *pool)
     }
 }
 
+static struct board *new_board(void)
+{
+    struct board *board = mmap(NULL, sizeof *board, PROT_READ | PROT_WRITE, MAP_SHARED | MAP_ANONYMOUS, -1, 0);
+
+    if (board == MAP_FAILED)
+        fail_errno("no memory for a script");
+    return board;
+}
+
 static void begin_pool(struct pool *pool)
 {
     mount_pool(pool);
     fill_pool(pool->script);
     open_files(pool);
+    pool->board = new_board();
     /* (what is buffered here would be written by each task, too) */
     fflush(stdout);
     for (unsigned k = 0; k < pool->script->tasks; k++)
@@ -126,6 +140,7 @@ static void end_pool(struct pool *pool)
     for (unsigned k = 0; k < pool->script->tasks; k++)
         if (pool->tasks[k].is_alive)
             end_task(&pool->tasks[k], k + 1);
+    munmap(pool->board, sizeof *pool->board);
     remove_files(pool);
     free(pool->entries.all);
 }
@@ -262,10 +277,27 @@ static void run_start(struct pool *pool, const struct line *line)
     printf("%s = %s", line->text, task->is_alive ? "started" : "refused notalive");
 }
 
+/* Asks a task for its call, and goes on when that is held. */
+static void run_hold(struct pool *pool, const struct line *line)
+{
+    static const char *const words[] = {[HELD] = "held", [PASSED] = "passed", [NOT_HELD] = "started"};
+    struct task *task = &pool->tasks[line->task - 1];
+
+    if (line->call.denial.first && !ready_denial(line->call.denial))
+        fail(STATUS_FAILED, "'%s': this kernel can't deny memory", line->text);
+    printf("%s = %s", line->text, task->is_alive ? words[ask_held(task, &line->call, line->functions)] : "refused notalive");
+}
+
+static void run_deny(struct pool *pool, const struct line *line)
+{
+    printf("%s = %s", line->text, ready_denial(line->call.denial) ? answer_of(&pool->tasks[line->task - 1], line) : "refused nodenial");
+}
+
 static void run_wait(struct pool *pool, const struct line *line)
 {
     struct task *task = &pool->tasks[line->task - 1];
 
+    let_go_for(task);
     if (task->is_alive)
         wait_for(task, line->task);
     printf("%s = %s", line->text, task->is_alive ? task->desk->answer : "refused notalive");
@@ -294,22 +326,28 @@ static void ask_all(struct pool *pool, const struct line *line)
     }
 }
 
-static void tell_race_of(struct task *task, unsigned number, const struct line *line)
+/* Tells what a task made in a race, and returns how many pages it may have placed while truncations ran. */
+static uint64_t tell_race_of(struct task *task, unsigned number, const struct line *line)
 {
+    uint64_t beside;
+
     wait_for(task, number);
-    if (strncmp(task->desk->answer, "raced ", 6))
+    if (sscanf(task->desk->answer, "raced beside %" SCNu64, &beside) != 1)
         fail(STATUS_FAILED, "'%s': task %u: %s", line->text, number, task->desk->answer);
     printf("# task %u %s", number, task->desk->answer);
     end_line();
+    return beside;
 }
 
 static void run_race(struct pool *pool, const struct line *line)
 {
+    uint64_t beside = 0;
+
     ask_all(pool, line);
     for (unsigned k = 0; k < pool->script->tasks; k++)
         if (pool->tasks[k].is_alive)
-            tell_race_of(&pool->tasks[k], k + 1, line);
-    printf("%s = rest", line->text);
+            beside += tell_race_of(&pool->tasks[k], k + 1, line);
+    printf("%s = rest beside %" PRIu64, line->text, beside);
 }
 
 /* Whether no task is at work: while one is, the state is by chance, and isn't told. */
@@ -327,8 +365,14 @@ static void run_line(struct pool *pool, const struct line *line)
     case LINE_BEGIN:
         run_begin(pool, line);
         break;
+    case LINE_DENY:
+        run_deny(pool, line);
+        break;
     case LINE_START:
         run_start(pool, line);
+        break;
+    case LINE_HOLD:
+        run_hold(pool, line);
         break;
     case LINE_WAIT:
         run_wait(pool, line);

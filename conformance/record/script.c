@@ -207,6 +207,54 @@ static void read_start(struct reader *reader, const struct words *words, struct 
     reader->is_at_work[line->task] = true;
 }
 
+/* The words without the second. */
+static struct words without_second(const struct words *words)
+{
+    struct words rest = {.all = {words->all[0]}, .count = words->count - 1};
+
+    memcpy(rest.all + 1, words->all + 2, (words->count - 2) * sizeof *rest.all);
+    return rest;
+}
+
+static struct denial denial_of(const struct reader *reader, char *word)
+{
+    char *last = word, *first = strsep(&last, "-");
+    unsigned from = number_from(reader, first, 1, MOST_DENIED);
+
+    return (struct denial){from, last ? number_from(reader, last, from, MOST_DENIED) : from};
+}
+
+static void read_hold(struct reader *reader, const struct words *words, struct line *line)
+{
+    bool is_denied = words->count > 4 && !strcmp(words->all[2], "deny");
+    struct words rest;
+
+    if (words->count < 4)
+        bad(reader, "a call that is held is 'hold FUNCTION [deny FIRST-LAST] TASK CALL ..'");
+    rest = without_second(words);
+    if (is_denied) {
+        rest = without_second(&rest);
+        rest = without_second(&rest);
+    }
+    read_start(reader, &rest, line);
+    line->kind = LINE_HOLD;
+    line->functions = copy(words->all[1]);
+    if (is_denied)
+        line->call.denial = denial_of(reader, words->all[3]);
+}
+
+static void read_deny(const struct reader *reader, const struct words *words, struct line *line)
+{
+    struct words rest;
+
+    if (words->count < 4)
+        bad(reader, "a call that is denied memory is 'deny FIRST[-LAST] TASK CALL ..'");
+    rest = without_second(words);
+    read_begin(reader, &rest, line);
+    line->kind = LINE_DENY;
+    line->call.denial = denial_of(reader, words->all[1]);
+}
+
 static void read_wait(struct reader *reader, const struct words *words, struct line *line)
 {
     if (words->count != 2)
@@ -315,6 +363,10 @@ static void read_call(struct reader *reader, const struct words *words, const ch
         read_begin(reader, words, &line);
     else if (!strcmp(words->all[0], "start"))
         read_start(reader, words, &line);
+    else if (!strcmp(words->all[0], "hold"))
+        read_hold(reader, words, &line);
+    else if (!strcmp(words->all[0], "deny"))
+        read_deny(reader, words, &line);
     else if (!strcmp(words->all[0], "wait"))
         read_wait(reader, words, &line);
     else if (!strcmp(words->all[0], "resize"))

@@ -11,6 +11,8 @@ enum {
     MOST_SLOTS = 64,
     MOST_TASKS = 64,
     MOST_QUOTA = 65536,
+    /* the allocations of a call of which one may be denied */
+    MOST_DENIED = 1000,
     /* the numbers that an operation has */
     MOST_NUMBERS = 4,
 };
@@ -39,27 +41,36 @@ enum operation {
 
 #define RACE_LETTERS "mnulsakpt"
 
-/* An operation with its numbers, in the order of the line. */
+/* Allocations of kernel memory that a call is denied: the first, counted from 1, and the last; 0 and 0 where none is. */
+struct denial {
+    unsigned first, last;
+};
+
+/* An operation with its numbers, in the order of the line, and what it is denied. */
 struct call {
     enum operation operation;
     uint64_t numbers[MOST_NUMBERS];
+    struct denial denial;
 };
 
 /* A race's numbers: the seed, how many calls each task makes, how many pages of a file they are about, and a bit for
  * each operation that may be drawn. */
 enum { RACE_SEED, RACE_CALLS, RACE_SPAN, RACE_KINDS };
 
-/* A call that is begun runs to its end. One that is started goes on beside the lines that follow, up to its task's wait. */
-enum line_kind { LINE_BEGIN, LINE_START, LINE_WAIT, LINE_RESIZE, LINE_RACE };
+/* A call that is begun runs to its end, and so does one that is denied memory. One that is started goes on beside the lines that
+ * follow, up to its task's wait; and one that is held stands in the kernel meanwhile, where it enters a function. */
+enum line_kind { LINE_BEGIN, LINE_DENY, LINE_START, LINE_HOLD, LINE_WAIT, LINE_RESIZE, LINE_RACE };
 
 struct line {
     enum line_kind kind;
     /* the line as it is told, without an answer that stood behind it */
     char *text;
-    /* of LINE_BEGIN, LINE_START and LINE_WAIT, counted from 1 */
+    /* of all but LINE_RESIZE and LINE_RACE, counted from 1 */
     unsigned task;
-    /* of LINE_BEGIN, LINE_START and LINE_RACE */
+    /* of all but LINE_WAIT and LINE_RESIZE */
     struct call call;
+    /* of LINE_HOLD: the names that the function has, with a bar between */
+    char *functions;
     /* of LINE_RESIZE */
     unsigned frames;
 };

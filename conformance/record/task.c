@@ -12,6 +12,7 @@
 #include <sys/wait.h>
 #include <unistd.h>
 
+#include "deny.h"
 #include "fail.h"
 
 /* What a task's process does: answers as long as the other end is there. */
@@ -20,7 +21,9 @@ static _Noreturn void answer_all(struct desk *desk, struct files files, int line
     char byte;
 
     while (read(line, &byte, 1) == 1) {
+        begin_denial(desk->call.denial);
         make_call(desk, files);
+        end_denial();
         if (write(line, &byte, 1) != 1)
             break;
     }

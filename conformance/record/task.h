@@ -49,10 +49,16 @@ struct task {
     struct desk *desk;
 };
 
+/* How many truncations of each file have begun and ended: all tasks of a script write there. */
+struct board {
+    _Atomic uint64_t begun[MOST_FILES], ended[MOST_FILES];
+};
+
 /* What a task has of the pool. */
 struct files {
     const int *open;
     unsigned count;
+    struct board *board;
 };
 
 /* Makes a process that answers until it is let go. `number` is for messages; `others` are the tasks made before. */
@@ -72,6 +78,9 @@ void make_call(struct desk *desk, struct files files);
 
 /* The same of the call of a race. */
 void race(struct desk *desk, struct files files);
+
+/* The mapping in which a page lies, or NULL. */
+const struct mapping *mapping_of(const struct desk *desk, uint64_t page);
 
 /* The least virtual page from which on so many are free, or -1. */
 int64_t room_for(const struct desk *desk, uint64_t pages);

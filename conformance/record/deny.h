@@ -1,0 +1,18 @@
+/* Denying a call some of its allocations of kernel memory. */
+#ifndef DENY_H
+#define DENY_H
+
+#include <stdbool.h>
+
+#include "script.h"
+
+/* Readies the kernel for a call that is denied memory. Whether it can do so (CONFIG_FAILSLAB). */
+bool ready_denial(struct denial denial);
+
+/* In a task's process: has its allocations fail from the first of a denial to the last, if it is one. */
+void begin_denial(struct denial denial);
+
+/* Has none fail any more. */
+void end_denial(void);
+
+#endif

@@ -1,0 +1,27 @@
+/* Holding a task's call where it enters a function of the kernel, while others make calls. */
+#ifndef HOLD_H
+#define HOLD_H
+
+#include <stdbool.h>
+#include <sys/types.h>
+
+#include "task.h"
+
+/* How a call that is to be held went on. */
+enum held {
+    /* it stands where it enters the function */
+    HELD,
+    /* it has ended, and hasn't come there */
+    PASSED,
+    /* this kernel has no such function, or can't have a call be held */
+    NOT_HELD,
+};
+
+/* Asks a task for a call, and waits until that is held. `functions` has the function's names, of which kernels have one
+ * each, with a bar between. The call of one task at a time can be held. */
+enum held ask_held(struct task *task, const struct call *call, const char *functions);
+
+/* Has a call that is held go on, if this task is to answer: it is held itself, or it waits for the one that is. */
+void let_go_for(struct task *task);
+
+#endif
