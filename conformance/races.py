@@ -32,12 +32,12 @@ class Rest(NamedTuple):
 
 
 # a line that tells the numbers of a pool in which no call is in flight
-TOLD = re.compile(r"(?:race|begin 1 trunc) .* = \w+ \| (\d+) (-?\d+) \|")
+TOLD = re.compile(r"[^=|]* = [^|]* \| (\d+) (-?\d+) \|")
 
 
 def rests(script: Script) -> list[Rest]:
-    """The numbers after each race of a script, and after the truncation at its end."""
-    said = [TOLD.match(line) for line in script.lines if line.startswith(("race ", "begin 1 trunc "))]
+    """The numbers behind each line of a script at which no call is in flight; the last is the truncation at its end."""
+    said = [TOLD.match(line) for line in script.lines]
     return [Rest(*map(int, it.groups())) for it in said if it]
 
 
@@ -53,6 +53,18 @@ def is_loss(script: Script) -> bool:
     *raced, end = rests(script)
     frames = int(script.header.split()[1])
     return all(it.resv <= it.free for it in raced) and end.free == frames and end.resv <= 0
+
+
+def beside(script: Script) -> int | None:
+    """How many pages may have been placed in a script while truncations of their file ran, if its recorder told so."""
+    found = [re.search(r" = rest beside (\d+) \|", line) for line in script.lines if line.startswith("race ")]
+    return sum(int(it[1]) for it in found if it) if all(found) else None
+
+
+def is_accounted(script: Script) -> bool:
+    """Whether no more reservations were lost than by Linux's rules N and U: one for a page that was placed while a truncation ran."""
+    placed = beside(script)
+    return placed is None or -rests(script)[-1].resv <= placed
 
 
 def has_truncations(script: Script) -> bool:

@@ -118,10 +118,13 @@ MEMBERS = {
 }
 NAMES = {"linux-binary-7.3-amd64 (= 7.3~rc7-1~exp1)": "linux-binary-7.3-amd64=7.3~rc7-1~exp1", "dracut": "dracut", "kmod (>= 20)": "kmod"}
 RACES = (
-    ("a race of maps ends right", "mns", 0, "agrees"),
-    ("a race of maps loses a count", "mns", -1, "new"),
-    ("a race with truncations loses a count", "mst", -1, RACE),
-    ("a race with truncations leaks a count", "mst", 1, "new"),
+    ("a race of maps ends right", "mns", 0, "", "agrees"),
+    ("a race of maps loses a count", "mns", -1, "", "new"),
+    ("a race with truncations loses a count", "mst", -1, "", RACE),
+    ("a race with truncations leaks a count", "mst", 1, "", "new"),
+    ("a race loses a count where a truncation ran beside a touch", "mst", -1, " beside 1", RACE),
+    ("a race loses a count where no truncation ran beside a touch", "mst", -1, " beside 0", "new"),
+    ("a race loses more than were placed beside truncations", "mst", -3, " beside 2", "new"),
 )
 KNOWN_TEXTS = {key: "" for key in ("title", "script", "kernel", "machine", "cause")} | {"versions": [], "functions": [], "links": []}
 BAD_FILES = (
@@ -132,7 +135,7 @@ BAD_FILES = (
     ({"recording": [{"rule": "B", "file": "x.bin"}]}, "a rule 'recording' has no letters"),
 )
 MISUSES = (
-    (["test"], "one of the arguments --package --kernel --here is required"),
+    (["test"], "one of the arguments --package --kernel --here --answers --config is required"),
     (["test", "--kernel", "/nonexistent"], "/nonexistent is no kernel that can be read"),
     (["test", "--kernel", "/dev/null", "--suites", "odd"], "there is no suite odd"),
     (["test", "--kernel", "/dev/null", "--without", "odd"], "there is no known issue odd"),
@@ -165,8 +168,8 @@ def ending(case: Case, without: tuple[str, ...] = ()) -> str:
     return end_of(Comparison(PROGRAM, version, known_issues(without=without)).result(answered[0]))
 
 
-def race_ending(kinds: str, reserved: int) -> str:
-    lines = (f"race 1 9 4 {kinds} = rest | 4 0 | 0 0 | 0 0", f"begin 1 trunc 0 0 = done | 4 {reserved} | 0 0 | 0 0")
+def race_ending(kinds: str, reserved: int, beside: str = "") -> str:
+    lines = (f"race 1 9 4 {kinds} = rest{beside} | 4 0 | 0 0 | 0 0", f"begin 1 trunc 0 0 = done | 4 {reserved} | 0 0 | 0 0")
     text = "\n".join(["# x", "script r", "pool 4 1 4 2", *lines, "end x\n"])
     wrong = wrong_counts(parsed(text)[1], known_issues())
     return str(wrong[0].known or "new") if wrong else "agrees"
@@ -214,8 +217,8 @@ def faults_of_known() -> Iterator[tuple[str, object]]:
     yield "a surplus, with its file left out", ending(shrunk, (SURPLUS,)) == "new"
     quota = next(it for it in CASES if it.what == "want of quota is noframe")
     yield "noquota, with its file left out", ending(quota, ("noquota-is-noframe",)) == "new"
-    for what, kinds, reserved, ends in RACES:
-        yield what, race_ending(kinds, reserved) == ends or race_ending(kinds, reserved)
+    for what, kinds, reserved, beside, ends in RACES:
+        yield what, race_ending(kinds, reserved, beside) == ends or race_ending(kinds, reserved, beside)
     yield from faults_of_rules()
     yield from faults_of_translation()
     for told, why in BAD_FILES:
@@ -389,7 +392,7 @@ def faults_of_races() -> Iterator[tuple[str, object]]:
 
 def faults_of_covering() -> Iterator[tuple[str, object]]:
     """What runs by default, and that the last table says of each suite what it found, and nothing that its scripts have as not covered."""
-    yield "the races run by default", suites.default(False) == ("fixed", "random", "quota", "resize", "peers", "races") or suites.default(False)
+    yield "the races run by default", suites.default(False) == ("fixed", "random", "quota", "resize", "peers", "held", "denied", "races") or suites.default(False)
     yield "but not on a machine's own kernel", suites.default(True) == ("fixed", "random", "quota", "resize", "peers") or suites.default(True)
     signs = {"quotas": r"(?m)^pool( \d+){5}$", "resizes": r"(?m)^resize ", "calls at once": r"(?m)^(start|race) "}
     for it in suites.SUITES.values():

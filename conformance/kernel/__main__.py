@@ -14,7 +14,7 @@ from pathlib import Path
 from typing import NoReturn
 
 import generate
-from kernel import exploring, kernels, report, reproduce, suites
+from kernel import bundle, exploring, in_c, kernels, ktap, report, reproduce, suites
 from kernel.audit import command as audit
 from kernel.kernels import Emulation, Kernel, say
 from kernel.known import FOLDER, Known, known_issues
@@ -36,11 +36,14 @@ ABOUT = """Finds the calls in which a Linux kernel differs from the machine of t
   ./kernel reproduce --package linux-image-cloud-amd64         the reports' reproducers, and whether their errors show
   ./kernel schedules my.script                                 all schedules of calls of your own, by Linux's rules
   ./kernel audit --core vmcore                                 who has reserved what in a kernel or a dump, and whether its counts are right
+  ./kernel bundle to.tar                                       the recorder and the scripts, for another machine
   ./kernel known                                               the known issues
 """
 AFTER = """Status: 0 no new difference; 1 new differences, even if a later suite could not run; 2 could not run (125 with --bisect).
 Fetched kernels are kept in KIRVESSA_CACHE (~/.cache/kirvessa). Without /dev/kvm the processor is emulated, and a suite takes
 about a minute. conformance/README.md describes the suites, the scripts and the known issues."""
+# the configuration that suffices for all suites
+CONFIG = Path(__file__).resolve().parent / "config"
 # so many calls a task makes in a race at most where the processor is emulated
 RACE_CALLS = 300
 # statuses: of a command that can't run; for git bisect run, of a kernel that can't be judged, and of words that are wrong
@@ -48,17 +51,20 @@ CANNOT_RUN, CANNOT_JUDGE, BISECTION_ENDS = 2, 125, 128
 RAW = argparse.RawDescriptionHelpFormatter
 
 
-def add_kernel(to: argparse.ArgumentParser) -> None:
-    """The options that say which kernel is asked, and what answers for the machine."""
+def add_kernel(to: argparse.ArgumentParser) -> argparse._MutuallyExclusiveGroup:
+    """The options that say which kernel is asked, and what answers for the machine. Returns those of which one has to be there."""
     which = to.add_mutually_exclusive_group(required=True)
     which.add_argument("--package", metavar="P", help="the kernel of this Debian package, emulated: NAME, NAME/SUITE or NAME=VERSION")
     which.add_argument("--kernel", metavar="VMLINUZ", help="this kernel image, in an emulated machine")
     which.add_argument("--here", action="store_true", help="this machine's own kernel, as root, where no huge page is in use")
+    to.add_argument("--append", default="", metavar="WORDS", help="further words for the command line of an emulated kernel")
+    to.add_argument("--memory", type=positive, metavar="MIB", help="the memory of the emulated machine (768)")
     to.add_argument("--cpus", type=positive, default=2, metavar="N", help="processors of the emulated machine (2)")
     to.add_argument("--seconds", type=positive, default=900, metavar="N", help="ends an emulated machine that isn't done by then (900)")
     to.add_argument("--program", metavar="P", help="a program that answers for the machine: 'P replay' reads a trace")
     to.add_argument("--without", action="append", default=[], metavar="NAME", help="treats this known issue as new; may be repeated")
     to.add_argument("--known", type=Path, default=FOLDER, metavar="FOLDER", help="the known issues (conformance/known)")
+    return which
 
 
 def positive(word: str) -> int:
@@ -78,7 +84,9 @@ def parser() -> argparse.ArgumentParser:
     commands = top.add_subparsers(dest="command", required=True, metavar="COMMAND")
     about = "Tests a kernel, and prints each new difference."
     test = commands.add_parser("test", help="tests a kernel", description=about, epilog=AFTER, formatter_class=RAW, allow_abbrev=False)
-    add_kernel(test)
+    which = add_kernel(test)
+    which.add_argument("--answers", type=Path, metavar="FOLDER", help="what a bundle's run.sh brought back from another machine")
+    which.add_argument("--config", action="store_true", help="prints the configuration that suffices for a kernel of one's own, and ends")
     names = f"of {', '.join(suites.SUITES)} ({' '.join(suites.default(False))} unless named; without {suites.RACES} with --here)"
     test.add_argument("--suites", nargs="+", default=None, metavar="NAME", help=names)
     test.add_argument("--scripts", nargs="+", type=Path, default=[], metavar="FILE", help="files of scripts, as a suite each")
@@ -93,9 +101,15 @@ def parser() -> argparse.ArgumentParser:
     test.add_argument("--keep-console", type=Path, metavar="FILE", help="keeps what the emulated kernels write to their consoles")
     test.add_argument("--junit", metavar="FILE", help="writes the results as JUnit's XML, too")
     test.add_argument("--json", metavar="FILE", help="writes the results as JSON, too")
+    test.add_argument("--ktap", metavar="FILE", help="writes the results as KTAP, too")
+    about = "Packs the recorder and the scripts, to be run on a machine where nothing of this is installed."
+    pack = commands.add_parser("bundle", help="packs the recorder for another machine", description=about)
+    pack.add_argument("file", type=Path, metavar="FILE", help="the archive to write (.tar)")
+    pack.add_argument("--suites", nargs="+", default=None, metavar="NAME", help="those of which a kernel keeps no wrong count, unless named")
     about = "Makes a new difference smaller: leaves out calls and lowers numbers until nothing smaller differs in the same way."
     small = commands.add_parser("minimize", help="makes a difference smaller", description=about)
     small.add_argument("script", type=Path, help="a file of scripts")
+    small.add_argument("--c", type=Path, metavar="FILE", help="writes a program in C that makes the calls, and needs libc alone")
     small.add_argument("--name", metavar="NAME", help="the script to take (the shortest one that differs)")
     add_kernel(small)
     about = "Runs the reproducers of docs/reports on emulated kernels, and prints on which the errors show. Status: 0 it ran; 2 it could not."
@@ -123,7 +137,10 @@ def kernel_of(options: argparse.Namespace) -> Kernel:
     consoles = getattr(options, "keep_console", None)
     if consoles is not None:
         consoles.write_text("", encoding="utf-8")
-    how = Emulation(options.cpus, options.seconds, getattr(options, "audit", False), getattr(options, "panic_on_warn", False), consoles)
+    is_paused, panics = getattr(options, "audit", False), getattr(options, "panic_on_warn", False)
+    how = Emulation(options.cpus, options.seconds, is_paused, panics, consoles, options.append, options.memory)
+    if getattr(options, "answers", None) is not None:
+        return bundle.answered(options.answers)
     if options.package is not None:
         return kernels.of_package(options.package, how)
     return kernels.emulated(Path(options.kernel), options.kernel, how)
@@ -131,8 +148,11 @@ def kernel_of(options: argparse.Namespace) -> Kernel:
 
 def run_test(options: argparse.Namespace) -> int:
     """Tests a kernel suite by suite; each is one boot, or more where races leave wrong counts."""
+    if options.config:
+        print(CONFIG.read_text(encoding="utf-8"), end="")
+        return 0
     issues = known_issues(options.known, tuple(options.without))
-    default = [] if options.scripts else suites.default(options.here)
+    default = [] if options.scripts else bundle.suites_in(options.answers) if options.answers else suites.default(options.here)
     chosen = [suites.suite_of(name) for name in (default if options.suites is None else options.suites)]
     files = [(path.name, suites.read_scripts(path)) for path in options.scripts]
     symbols = audit_symbols(options) if options.audit else None
@@ -181,6 +201,7 @@ class Running:
         if self.found:
             report.write(self.options.json, report.json_text(self.found, self.basis))
             report.write(self.options.junit, report.junit_text(self.found))
+            report.write(self.options.ktap, ktap.text(self.found))
             print(report.text(self.found, self.basis, is_told=True))
         if self.found or self.new:
             print(f"kernel: {self.last()}", flush=True)
@@ -213,6 +234,8 @@ def run_minimize(options: argparse.Namespace) -> int:
     minimizer = Minimizer(kernel_of(options), machine(options.program), issues)
     found = minimized(minimizer, some, lambda it: it.known is None)
     print("\n".join(report.difference_text(found)))
+    if options.c is not None:
+        report.write(str(options.c), in_c.program(found))
     print(f"kernel: {found.number} calls, after {minimizer.boots} boots and {time.monotonic() - began:.0f} s")
     return 1
 
@@ -243,7 +266,14 @@ def run_scripts(options: argparse.Namespace) -> int:
     return generate.main([str(options.seed), str(options.count), options.kind])
 
 
-COMMANDS = {"test": run_test, "minimize": run_minimize, "reproduce": run_reproduce, "schedules": exploring.run,
+def run_bundle(options: argparse.Namespace) -> int:
+    names = options.suites or suites.default(True)
+    bundle.pack(options.file, [suites.suite_of(it) for it in names])
+    print(f"kernel: {options.file}: unpack it there, run 'sudo ./run.sh', bring its folder 'answers' back: ./kernel test --answers FOLDER")
+    return 0
+
+
+COMMANDS = {"test": run_test, "bundle": run_bundle, "minimize": run_minimize, "reproduce": run_reproduce, "schedules": exploring.run,
             "audit": audit.run, "scripts": run_scripts, "known": run_known}
 
 

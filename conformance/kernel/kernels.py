@@ -31,7 +31,9 @@ ODD = (
     (r"record: task (\d+) died of signal ((?:4|5|7|8|11) \(.*\))", "a call of task {0} ended in signal {1}"),
     (r"record: before script (\S+) the kernel keeps (\d+) huge pages that nobody should use", "{1} huge pages are still in use before script {0}, and nobody has them"),
 )
-COMMANDS = {"qemu-system-x86_64": "qemu-system-x86", "cpio": "cpio", "cc": "build-essential"}
+COMMANDS = {"qemu-system-x86_64": "qemu-system-x86", "cpio": "cpio", "cc": "build-essential", "setpriv": "util-linux"}
+# what ends a recorder in order if this program is killed, even in a way that it can't notice
+WITH_US = ("setpriv", "--pdeathsig", "TERM")
 
 
 # what looks on while a recorder runs, given the folder in which its files are
@@ -76,6 +78,8 @@ class Kernel:
     is_slow: bool = False
     # where the consoles of its machines are kept, if they are
     consoles: Path | None = None
+    # what boots one that stays, if it can
+    staying: tuple[str | Path, ...] = ()
 
     def record(self, text: str, lines: int, has_races: bool = False) -> str:
         """What the kernel answers to the scripts of a text, which has so many lines to be answered."""
@@ -103,7 +107,7 @@ class Kernel:
         environment = {**os.environ, "TMPDIR": str(room)}
         # (what is told is kept in memory: where the disk is full, that is just what has to be read)
         with (room / "recorded").open("wb") as out, open(os.memfd_create("said"), "w+b") as said:
-            ran = subprocess.Popen(command, stdin=subprocess.DEVNULL, stdout=out, stderr=said, env=environment)
+            ran = subprocess.Popen([*WITH_US, *command], stdin=subprocess.DEVNULL, stdout=out, stderr=said, env=environment)
             try:
                 is_enough = waiting.wait(ran)
             finally:
@@ -228,19 +232,25 @@ class Emulation:
     # a warning stops the kernel
     panics_on_warning: bool = False
     consoles: Path | None = None
+    # further words for the kernel, and its memory in MiB, if it isn't emulate.sh's own
+    append: str = ""
+    memory: int | None = None
 
     def words(self) -> list[str]:
         words = ["--leave", "--cpus", str(self.cpus), "--seconds", str(self.seconds)]
-        return [*words, *(["--pause"] if self.is_paused else []), *(["--append", "panic_on_warn=1"] if self.panics_on_warning else [])]
+        words += ["--memory", str(self.memory)] if self.memory else []
+        append = " ".join(it for it in ("panic_on_warn=1" if self.panics_on_warning else "", self.append) if it)
+        return [*words, *(["--pause"] if self.is_paused else []), *(["--append", append] if append else [])]
 
 
 def emulated(kernel: Path, name: str, how: Emulation) -> Kernel:
     """A kernel in an emulated machine."""
     readable(kernel)
-    need("qemu-system-x86_64", "cpio", "cc")
+    need("qemu-system-x86_64", "cpio", "cc", "setpriv")
     accel = accelerator()
     options = ["--kernel", kernel, *how.words(), "--accel", accel]
-    return Kernel(name, lambda scripts, _: [RECORD / "emulate.sh", *options, scripts], accel == "tcg", how.consoles)
+    staying = (RECORD / "emulate.sh", *options, "--stay")
+    return Kernel(name, lambda scripts, _: [RECORD / "emulate.sh", *options, scripts], accel == "tcg", how.consoles, staying)
 
 
 def accelerator() -> str:
@@ -278,7 +288,7 @@ def here() -> Kernel:
     """The kernel of this machine. The recorder refuses unless no huge page is in use, and puts the settings back."""
     if os.geteuid() != 0:
         raise Problem("--here needs root, which alone can change the number of huge pages")
-    need("cc")
+    need("cc", "setpriv")
     built = subprocess.run([RECORD / "build.sh"], capture_output=True, text=True, check=False)
     if built.returncode:
         raise Problem(f"the recorder can't be compiled: {reason(built.stderr, built.returncode)}")

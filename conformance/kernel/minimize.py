@@ -1,4 +1,4 @@
-"""Makes a script in which a kernel differs smaller, by asking the kernel many smaller scripts in one boot.
+"""Makes a script in which a kernel differs smaller, by asking the kernel many smaller scripts.
 
 A round tries scripts with calls left out and with smaller numbers. The smallest one that still differs in the same way is the next
 round's. It ends when nothing that is one change away differs so, and of a short script nothing that is two away.
@@ -6,6 +6,7 @@ round's. It ends when nothing that is one change away differs so, and of a short
 from __future__ import annotations
 
 import re
+from contextlib import nullcontext
 from dataclasses import dataclass
 from itertools import combinations
 from typing import Callable, Iterator
@@ -16,6 +17,7 @@ from kernel.kernels import Kernel, say
 from kernel.known import Known
 from kernel.machine import Machine
 from kernel.problem import Problem
+from kernel.standing import Standing, can_stay
 from kernel.suites import has_overlaps, text_of
 from kernel.testing import check_whole, compared, parsed
 
@@ -182,11 +184,21 @@ class Minimizer:
     machine: Machine
     known: list[Known]
     boots: int = 0
+    # a machine that stays, if there can be one
+    standing: Standing | None = None
+
+    def answers(self, some: list[Script]) -> str:
+        if self.standing is None:
+            self.boots += 1
+            return self.kernel.record(text_of(some), sum(len(it.lines) for it in some))
+        try:
+            return self.standing.answers(some)
+        finally:
+            self.boots = self.standing.boots
 
     def differences(self, some: list[Script]) -> list[Difference | None]:
         """The first difference of each script, on the kernel itself."""
-        self.boots += 1
-        version, answered = parsed(self.kernel.record(text_of(some), sum(len(it.lines) for it in some)))
+        version, answered = parsed(self.answers(some))
         check_whole("minimize", some, answered)
         results = compared(Comparison(self.machine.program, version, self.known), answered)
         return [it.difference for it in results]
@@ -236,6 +248,12 @@ def minimized(minimizer: Minimizer, some: list[Script], choose: Callable[[Differ
     if has_overlaps(some):
         raise Problem("how calls end that overlap is by chance, so they can't be minimized")
     say(f"{len(some)} scripts on {minimizer.kernel.name}")
+    with Standing(minimizer.kernel) if can_stay(minimizer.kernel) else nullcontext() as minimizer.standing:
+        return minimized_there(minimizer, some, choose)
+
+
+def minimized_there(minimizer: Minimizer, some: list[Script], choose: Callable[[Difference], bool]) -> Difference:
+    """The same, while the machine is there."""
     found = [it for it in minimizer.differences(some) if it is not None and choose(it)]
     if not found:
         raise Problem("no script of these shows a new difference on this kernel, so there is nothing to minimize")

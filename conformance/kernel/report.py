@@ -17,6 +17,7 @@ from kernel.testing import Stopped, Tested, WrongCount
 
 HEADS = ("suite", "scripts", "calls", "agree", "not compared", "differ", "known rule", "new", "seconds")
 RACE_HEADS = ("races", "audited", "scripts", "right", "known rule", "new", "races of all", "calls of a task", "as written", "seconds")
+FORCED_HEADS = ("forced", "scripts", "as asked", "right", "new", "seconds")
 COVERED = ("suite", "calls", "new", "known")
 LEGEND = (
     "not compared: calls from the first difference, byte call or end of a known rule on; differ: scripts, each known or new;",
@@ -25,6 +26,10 @@ LEGEND = (
 RACE_LEGEND = (
     "right: scripts whose counts are right at rest, and whose audits, if there are some, find nothing; no more is compared; calls of a",
     "task: in each race, at most; as written: in the scripts. How a race ends is by chance, and one with fewer calls shows less.",
+)
+FORCED_LEGEND = (
+    "as asked: scripts in which a call came to where it is held, or might be denied memory, which takes a kernel built for that; right:",
+    "scripts with right counts at rest, and no call that found an ample pool empty.",
 )
 WIDTH = 120
 # so many new differences are printed in full, and so many spoiled calls of each
@@ -50,17 +55,25 @@ def race_row(it: Tested) -> tuple[str, ...]:
     return (it.name, *map(str, numbers), f"{it.seconds:.0f}")
 
 
+def forced_row(it: Tested) -> tuple[str, ...]:
+    """A suite whose calls are held or denied memory, in numbers."""
+    return (it.name, *map(str, (len(it.results), it.forced, len(it.results) - len(it.wrong), it.new)), f"{it.seconds:.0f}")
+
+
 def table(all_of_them: list[Tested]) -> list[str]:
     """A line for each suite whose calls are compared, and one for all of these."""
     return aligned([HEADS, *map(row, all_of_them)] + ([row(total(all_of_them))] if len(all_of_them) > 1 else []))
 
 
 def tables(all_of_them: list[Tested]) -> list[str]:
-    """The suites whose calls are compared, then those of races."""
-    calls, raced = ([it for it in all_of_them if (it.rounds is not None) == is_raced] for is_raced in (False, True))
-    lines = [*table(calls), *LEGEND] if calls else []
-    lines += [""] if calls and raced else []
-    return lines + ([*aligned([RACE_HEADS, *map(race_row, raced)]), *RACE_LEGEND] if raced else [])
+    """The suites whose calls are compared, then those whose calls are forced, then those of races."""
+    calls = [it for it in all_of_them if it.rounds is None]
+    held = [it for it in all_of_them if it.forced is not None]
+    raced = [it for it in all_of_them if it.rounds is not None and it.forced is None]
+    parts = [[*table(calls), *LEGEND]] if calls else []
+    parts += [[*aligned([FORCED_HEADS, *map(forced_row, held)]), *FORCED_LEGEND]] if held else []
+    parts += [[*aligned([RACE_HEADS, *map(race_row, raced)]), *RACE_LEGEND]] if raced else []
+    return [line for part in parts for line in (*part, "")][:-1]
 
 
 def aligned(rows: list[tuple[str, ...]]) -> list[str]:
@@ -159,7 +172,7 @@ def covered(all_of_them: list[Tested]) -> list[str]:
 
 def wrong_text(it: WrongCount) -> list[str]:
     """A script of races that leaves a wrong count: what is right, what was found and behind which call, and the script."""
-    lines = [f"{it.name}: wrong counts that no known issue explains: {it.rests}"]
+    lines = [f"{it.name}: wrong {'counts' if it.first else 'answers'} that no known issue explains: {it.rests if it.first else ''}".rstrip(": ")]
     if it.first:
         lines += [f"  expected: {it.first.expected}", f"  found:    {it.first.found.free} free, {it.first.found.resv} reserved"]
         lines += [f"  behind:   call {it.first.number}: {it.first.call}"]

@@ -3,7 +3,9 @@ from __future__ import annotations
 
 from dataclasses import dataclass
 from pathlib import Path
+from typing import Callable, Iterator
 
+import forced
 import races
 from compare import Script, scripts
 from kernel.problem import Problem
@@ -22,13 +24,18 @@ class Suite:
     # what its scripts don't have, beside what no suite has
     lacks: str
     has_races: bool = False
+    # of scripts that no file has: what makes them
+    made: Callable[[], Iterator[Script]] | None = None
 
 
 AT_ONCE = "calls at once"
 BY_COUNTS = "quotas, resizes; answers, pages and words (only counts at rest are compared); schedules that chance misses"
+BY_COUNTS_ALONE = "truncations, resizes; answers and pages (counts at rest are compared)"
+# the suites whose schedules are forced
+HELD, DENIED = "held", "denied"
 # what no suite has
 NOWHERE = "private mappings, fork of a task that maps, mremap, userfaultfd, minimum sizes (min_size=), surplus pages (overcommit), \
-control groups, NUMA, migration, memory failures (poison), failed allocations, pages of other sizes than 2 MiB"
+control groups, NUMA, migration, memory failures (poison), pages of other sizes than 2 MiB"
 SUITES = {
     it.name: it
     for it in (
@@ -37,6 +44,8 @@ SUITES = {
         Suite("quota", ("calls-quota.txt",), f"{AT_ONCE}, resizes, lengths in bytes"),
         Suite("resize", ("calls-resize.txt",), f"{AT_ONCE}, quotas, lengths in bytes"),
         Suite(PEERS, tuple(f"{PEERS}/{path.name}" for path in sorted((FOLDER / PEERS).glob("*.txt"))), "what its authors don't assert of calls that overlap"),
+        Suite(HELD, (), f"calls that are held at other places; {BY_COUNTS_ALONE}", True, forced.held),
+        Suite(DENIED, (), f"{AT_ONCE}, allocations of whole pages; {BY_COUNTS_ALONE}", True, forced.denied),
         Suite("races", ("races.txt", "races-by-kind.txt"), BY_COUNTS, True),
         Suite("races-by-chance", ("races-by-chance.txt",), BY_COUNTS, True),
     )
@@ -48,7 +57,7 @@ RACES = "races"
 
 def default(is_here: bool) -> tuple[str, ...]:
     """The suites that run unless some are named. A machine's own kernel is left with its counts: there races have to be named."""
-    return SEQUENTIAL if is_here else (*SEQUENTIAL, RACES)
+    return SEQUENTIAL if is_here else (*SEQUENTIAL, HELD, DENIED, RACES)
 
 
 def lacks(name: str, has_races: bool) -> str:
@@ -73,12 +82,14 @@ def read_scripts(path: Path) -> list[Script]:
 
 
 def scripts_of(suite: Suite) -> list[Script]:
+    if suite.made is not None:
+        return list(suite.made())
     return [script for name in suite.files for script in read_scripts(FOLDER / name)]
 
 
 def has_races(some: list[Script]) -> bool:
-    """Whether tasks race in some of the scripts, which then are judged by their counts at rest."""
-    return any(line.startswith("race ") for it in some for line in it.lines)
+    """Whether tasks race in some of the scripts, or calls are forced, which then are judged by their counts at rest."""
+    return any(line.startswith(("race ", *forced.FORCED)) for it in some for line in it.lines)
 
 
 def race_calls(some: list[Script]) -> list[int]:
@@ -103,7 +114,7 @@ def in_order(some: list[Script]) -> list[Script]:
 
 def has_overlaps(some: list[Script]) -> bool:
     """Whether calls of some of the scripts overlap, so that the order in which they act is by chance."""
-    return any(line.startswith(("race ", "start ")) for it in some for line in it.lines)
+    return any(line.startswith(("race ", "start ", "hold ")) for it in some for line in it.lines)
 
 
 def call_of(line: str) -> str:

@@ -9,6 +9,7 @@ from pathlib import Path
 from tempfile import TemporaryDirectory
 from typing import Callable
 
+import forced
 import races
 from compare import Script, scripts
 from kernel.audit.behind import Audited, Behind
@@ -23,6 +24,8 @@ from kernel.suites import call_of, in_order, race_calls, shortened, text_of
 
 # so many scripts are compared at a time
 AT_A_TIME = 2
+# a kernel that can't force the calls of so many scripts can't force any
+ENOUGH_IN_VAIN = 5
 # while a kernel answers, so long is compared before its console is looked at again, in seconds
 AT_ONCE = 0.5
 
@@ -82,6 +85,8 @@ class Tested:
     seconds: float = 0.0
     # of a suite of races, which is judged by its counts alone, or by audits, too
     rounds: Rounds | None = None
+    # of a suite whose schedules are forced: in how many scripts a call was held, or denied memory
+    forced: int | None = None
     audits: int | None = None
     # where the kernel ended it, if it did: no script behind that was made
     stopped: list[Stopped] = field(default_factory=list)
@@ -204,10 +209,18 @@ class Following:
     is_first: bool = False
     results: list[Result] = field(default_factory=list)
     new: int = 0
+    # scripts so far whose calls were forced, and those that asked in vain
+    forced: int = 0
+    vain: int = 0
 
     @property
     def is_enough(self) -> bool:
-        return self.is_first and self.new > 0
+        return self.is_vain or (self.is_first and self.new > 0)
+
+    @property
+    def is_vain(self) -> bool:
+        """Whether this kernel can't force what the scripts ask for: then the rest of them would show what other suites do."""
+        return not self.forced and self.vain >= ENOUGH_IN_VAIN
 
     def look(self, text: str) -> bool:
         """Looks at the answers so far, for a while; whether they are enough."""
@@ -227,6 +240,7 @@ class Following:
     def add(self, script: Script) -> None:
         one = judged(self.comparison, self.work, [script])
         self.results += one.results
+        self.forced, self.vain = self.forced + forced.was_forced(script), self.vain + forced.cannot(script)
         if one.new and self.work.symbols is None:
             self.new += one.new
             self.news(one)
@@ -262,6 +276,7 @@ def judged(comparison: Comparison, work: Work, answered: list[Script], audits: l
         found.audits = None if audits is None else len(audits)
         found.wrong = wrong_counts(answered, comparison.known) if audits is None else wrong_audits(answered, comparison.known, audits)
         found.rounds = rounds_of(work, answered)
+        found.forced = sum(map(forced.was_forced, answered)) if any(map(forced.has_force, work.scripts)) else None
         found.results = [Result(it.name, len(it.lines), len(it.lines)) for it in answered]
         return found
     if done is not None:
@@ -294,12 +309,13 @@ def compared(comparison: Comparison, answered: list[Script]) -> list[Result]:
 
 def wrong_counts(answered: list[Script], known: list[Known]) -> list[WrongCount]:
     """The scripts of races at whose end the counts are wrong."""
-    return [wrong_count(it, rule_of(it, known)) for it in answered if not races.is_right(it)]
+    odd = {it.name: tuple(forced.oddities(it)) for it in answered if forced.has_force(it)}
+    return [wrong_count(it, rule_of(it, known), odd.get(it.name, ())) for it in answered if not races.is_right(it) or odd.get(it.name)]
 
 
 def wrong_count(script: Script, known: Known | None, findings: tuple[str, ...] = ()) -> WrongCount:
     calls = Script(script.name, script.header, [call_of(line) for line in script.lines])
-    return WrongCount(script.name, str(races.rests(script)), known, findings, calls, first_wrong(script))
+    return WrongCount(script.name, " ".join(f"{it.free}/{it.resv}" for it in races.rests(script)), known, findings, calls, first_wrong(script))
 
 
 def first_wrong(script: Script) -> WrongRest | None:
@@ -315,8 +331,8 @@ def first_wrong(script: Script) -> WrongRest | None:
 
 
 def rule_of(script: Script, known: list[Known], clauses: frozenset[str] = frozenset()) -> Known | None:
-    """The known issue that explains wrong counts: races with truncations lose reservations, and nothing else."""
-    return race_rule(known, "t", clauses) if races.has_truncations(script) and races.is_loss(script) else None
+    """The known issue that explains wrong counts: races with truncations lose reservations, no more than their account has, and nothing else."""
+    return race_rule(known, "t", clauses) if races.has_truncations(script) and races.is_loss(script) and races.is_accounted(script) else None
 
 
 def wrong_audits(answered: list[Script], known: list[Known], audits: list[Audited]) -> list[WrongCount]:

@@ -1,0 +1,123 @@
+"""Scripts whose schedules are forced: calls that are held where they enter a function of the kernel, or denied memory.
+
+A script of the first kind makes ready what its calls need, holds a call of task 1 in the kernel, has task 2 make another
+one meanwhile, and lets the first go on. Each function in which a call decides something is tried with each two calls that
+can meet there. In a script of the second kind one or two allocations of kernel memory of a call are denied: its first,
+its second, and so on. There are no truncations but at the end, and each pool has frames for all, so on a right kernel no
+count goes wrong, and no call finds the pool empty.
+"""
+from __future__ import annotations
+
+import re
+from dataclasses import dataclass
+from itertools import product
+from typing import Iterator
+
+from compare import Script
+
+# ample: what all calls of a script can need, and as much quota
+POOL = "pool 16 1 8 2 16"
+END = "begin 1 trunc 0 0"
+# both tasks map the file without reservations, from virtual page 0 on
+MAPPED = ("begin 1 mapn 0 0 5", "begin 2 mapn 0 0 5")
+
+
+@dataclass(frozen=True)
+class Place:
+    """A function in which calls are held, by its names in versions of Linux, and the kinds of calls that come there."""
+
+    name: str
+    functions: tuple[str, ...]
+    kinds: tuple[str, ...]
+
+
+# what is there before: nothing; reservations; reservations and a page among them; pages; reservations with holes, and no
+# spare descriptor
+SETTINGS = {
+    "bare": (),
+    "reserved": ("begin 1 map 0 0 3",),
+    # (by the task whose calls aren't held: a removal waits for a touch that is held if its mapping shows the page)
+    "placed": ("begin 1 map 0 0 3", "begin 2 store 1 7"),
+    "allocated": ("begin 1 alloc 0 1 3",),
+    "holed": ("begin 1 map 0 0 5", "begin 1 store 1 7", "begin 1 store 3 7", "begin 1 punch 0 1 1"),
+}
+PLACES = (
+    Place("change", ("region_chg",), ("map",)),
+    Place("frame", ("alloc_huge_page", "alloc_hugetlb_folio"), ("store", "alloc")),
+    Place("quota", ("hugepage_subpool_get_pages",), ("store", "alloc", "map")),
+    Place("commit", ("region_add",), ("store", "alloc", "map")),
+    Place("page", ("hugetlb_add_to_page_cache",), ("store", "alloc")),
+    Place("account", ("hugetlb_acct_memory",), ("map",)),
+    Place("removal", ("hugetlb_unreserve_pages",), ("punch",)),
+    Place("deletion", ("region_del",), ("punch",)),
+    Place("freeing", ("free_huge_page", "free_huge_folio"), ("punch",)),
+)
+# the calls that are held
+HELD = ("store 1 5", "store 3 5", "alloc 0 1 3", "map 0 0 4", "punch 0 1 1", "punch 0 0 5")
+# what is made meanwhile: touches, and beside a touch also calls that take the file's lock, which other held calls have
+TOUCHES, LOCKING = ("store 1 6", "store 2 6"), ("alloc 0 1 3", "map 0 0 5", "punch 0 1 1")
+# the calls that are denied memory, and up to which of their allocations
+DENIED = ("store 1 5", "store 3 5", "load 0", "alloc 0 0 3", "alloc 0 3 2", "map 0 0 4", "map 0 1 1")
+DENIED += ("punch 0 1 1", "punch 0 3 1", "unmap 0")
+ALLOCATIONS = 6
+
+
+def script(name: str, setting: str, lines: tuple[str, ...]) -> Script:
+    return Script(name, POOL, [*MAPPED, *SETTINGS[setting], *lines, END])
+
+
+def kind_of(call: str) -> str:
+    return call.split()[0]
+
+
+def held() -> Iterator[Script]:
+    """Each call held in each function that it comes to, and each other call meanwhile."""
+    for place, setting, (number, first) in product(PLACES, list(SETTINGS)[:4], enumerate(HELD, 1)):
+        if kind_of(first) not in place.kinds:
+            continue
+        others = (TOUCHES[0], *LOCKING) if kind_of(first) == "store" else TOUCHES
+        for at, other in enumerate(others, 1):
+            # (behind them each page is touched, of which some were promised)
+            hold = f"hold {'|'.join(place.functions)} 1 {first}"
+            lines = (hold, f"start 2 {other}", "wait 2", "wait 1", "begin 1 load 1", "begin 1 load 2")
+            yield script(f"held.{place.name}.{setting}.{number}.{at}", setting, lines)
+
+
+def denied() -> Iterator[Script]:
+    """Each call with each of its first allocations denied, and with two of them; then all is mapped, and a page touched.
+
+    (Two, since the page cache tries twice to get a node of its tree, without waiting and with it.)
+    """
+    for setting, (at, call), first, more in product(SETTINGS, enumerate(DENIED, 1), range(1, ALLOCATIONS + 1), (0, 1)):
+        lines = (f"deny {first}-{first + more} 1 {call}", "begin 2 map 0 0 5", "begin 2 load 1")
+        yield script(f"denied.{setting}.{at}.{first}-{first + more}", setting, lines)
+
+
+# the lines of a script whose schedule is forced, and what they are answered where the kernel can do so
+FORCED = ("hold ", "deny ")
+CANNOT = ("started", "refused nodenial")
+# what no call may be answered where the pool is ample, unless it is denied memory
+ODD = re.compile(r"(?!deny )[^=]* = (?:noframe|errno|segv|beyond|bus)|.*DISAGREE")
+
+
+def has_force(script: Script) -> bool:
+    return any(line.startswith(FORCED) for line in script.lines)
+
+
+def was_forced(script: Script) -> bool:
+    """Whether a call of a recorded script was held, or might be denied memory."""
+    lines = [line for line in script.lines if line.startswith(FORCED)]
+    return any(not line.partition(" = ")[2].startswith((*CANNOT, "passed")) for line in lines)
+
+
+def cannot(script: Script) -> bool:
+    """Whether this kernel can't force what a recorded script asks for."""
+    return any(line.startswith(FORCED) and line.partition(" = ")[2].startswith(CANNOT) for line in script.lines)
+
+
+def oddities(script: Script) -> list[str]:
+    """What a recorded script has against its kernel beside wrong counts: answers, and used pages at the end."""
+    odd = [line.partition(" | ")[0] for line in script.lines if ODD.match(line)]
+    used = re.search(r"\| used (-?\d+)$", script.lines[-1])
+    is_leak = used is not None and used[1] != "0"
+    return odd + ([f"at the end, where no page is left, {used[1]} are used of the quota"] if is_leak else [])

@@ -1,0 +1,176 @@
+#!/usr/bin/env python3
+"""Tests what forces schedules, and what brings a test elsewhere, as far as that needs no kernel.
+
+Scripts whose calls are held or denied memory: that the recorder reads them, and that answers which only a wrong kernel gives are new.
+A made-up QEMU (test_console.py) is ended in each way. KTAP, bundles and reproducers in C are made of made-up results.
+"""
+from __future__ import annotations
+
+import os
+import re
+import signal
+import subprocess
+import sys
+import tarfile
+import tempfile
+import time
+from pathlib import Path
+from typing import Iterator
+
+import forced
+import test_console
+from compare import Script
+from kernel import bundle, in_c, ktap, machine, report, suites, testing
+from kernel.differences import Comparison
+from kernel.known import known_issues
+
+TOP = Path(__file__).resolve().parent.parent
+HEADER = forced.POOL
+FINE = (
+    "hold region_add 1 store 3 5 = held", "start 2 store 1 6 = started", "wait 2 = done", "wait 1 = done | 14 0 | 5 2 | 1 1 | used 2",
+    "begin 1 trunc 0 0 = done | 16 0 | 0 0 | 0 0 | used 0",
+)  # fmt: skip
+# a line of a script, what a wrong kernel answers there, and what is said of it
+ODD = (
+    (2, "wait 2 = noframe", "wait 2 = noframe"),
+    (2, "wait 2 = errno EEXIST", "wait 2 = errno EEXIST"),
+    (3, "wait 1 = done | 14 0 | 5 2 | 1 1 | used 2 DISAGREE", "wait 1 = done"),
+    (3, "wait 1 = done | 14 15 | 5 2 | 1 1 | used 2", "found:    14 free, 15 reserved"),
+    (4, "begin 1 trunc 0 0 = done | 16 0 | 0 0 | 0 0 | used 1", "1 are used of the quota"),
+    (4, "begin 1 trunc 0 0 = done | 16 -1 | 0 0 | 0 0 | used 0", "found:    16 free, -1 reserved"),
+)
+DENIED = ("deny 2-3 1 store 3 5 = noframe | 16 0 | 5 0 | 0 0 | used 0", "begin 1 trunc 0 0 = done | 16 0 | 0 0 | 0 0 | used 0")
+# what a kernel that can't force answers
+VAIN = ("hold region_add 1 store 3 5 = started", "deny 1-1 1 store 3 5 = refused nodenial | 16 0 | 5 0 | 0 0 | used 0")
+SIGNALS = (signal.SIGTERM, signal.SIGHUP, signal.SIGINT, signal.SIGKILL)
+LEAK = ("# 7.3-cloud #1 SMP Debian 7.3~rc7-1 x", "script a", "pool 1 1 4 2 4", "begin 1 mapn 0 0 2 = mapped 0 | 1 0 | 2 0 | 0 0 | used 0",
+        "begin 2 store 0 1 = segv | 1 0 | 2 0 | 0 0 | used 0", "begin 1 exit = done | 1 0 | 2 0 | 0 0 | used 0",
+        "begin 2 alloc 0 0 1 = done | 0 0 | 2 1 | 0 0 | used 2", "end total 1 free 1 resv 0 surp 0")  # fmt: skip
+
+
+def wrong(lines: tuple[str, ...]) -> str:
+    """What is said of a recorded script, or that it is right."""
+    found = testing.wrong_counts([Script("f", HEADER, list(lines))], known_issues())
+    return "\n".join(report.wrong_text(found[0])) if found and found[0].known is None else "known" if found else "right"
+
+
+def faults_of_scripts() -> Iterator[tuple[str, object]]:
+    """That the scripts are what they say, and that the recorder reads them."""
+    with tempfile.TemporaryDirectory(prefix="forced-") as name:
+        room = Path(name)
+        subprocess.run([TOP / "conformance" / "record" / "build.sh", room], check=True)
+        for suite in (suites.HELD, suites.DENIED):
+            some = suites.scripts_of(suites.SUITES[suite])
+            (room / suite).write_text(suites.text_of(some), encoding="utf-8")
+            checked = subprocess.run([room / "record", "--check", room / suite], capture_output=True, text=True, check=False)
+            yield f"{suite}: the recorder reads it", checked.stdout.startswith(f"{len(some)} scripts, ") or checked.stderr
+            yield f"{suite}: each name stands once", len({it.name for it in some}) == len(some)
+            yield f"{suite}: each is forced", all(map(forced.has_force, some))
+            yield f"{suite}: truncated at its end alone", all([" trunc " in line for line in it.lines].index(True) == len(it.lines) - 1 for it in some)
+        words = [room / "record", room / suites.HELD]
+        yield "held only with --race", "which --race allows" in subprocess.run(words, capture_output=True, text=True, check=False).stderr
+
+
+def faults_of_answers() -> Iterator[tuple[str, object]]:
+    """What a right kernel answers, and what only a wrong one does."""
+    for lines in (FINE, DENIED):
+        yield lines[0], wrong(lines) == "right" or wrong(lines)
+    for at, line, said in ODD:
+        found = wrong((*FINE[:at], line, *FINE[at + 1 :]))
+        yield line, said in found or found
+    recorded = [Script("f", HEADER, [line]) for line in (FINE[0], DENIED[0], *VAIN)]
+    yield "what was forced", [forced.was_forced(it) for it in recorded] == [True, True, False, False]
+    yield "what can't be forced", [forced.cannot(it) for it in recorded] == [False, False, True, True]
+
+
+def faults_of_vain() -> Iterator[tuple[str, object]]:
+    """That a suite ends early on a kernel that can't force it, and only there."""
+    some = [Script(f"s{at}", HEADER, ["hold region_add 1 load 0", forced.END]) for at in range(9)]
+    for answer, made in (("started", testing.ENOUGH_IN_VAIN), ("passed", 9), ("held", 9)):
+        following = testing.Following(Comparison(test_console.MACHINE.program, "", []), testing.Work("held", some, True), lambda _: None)
+        answers = [f"hold region_add 1 load 0 = {answer}", f"{forced.END} = done | 16 0 | 0 0 | 0 0 | used 0"]
+        following.follow([Script(it.name, HEADER, answers) for it in some], float("inf"))
+        yield f"calls that are {answer}", len(following.results) == made or following.results
+
+
+def begun(room: Path) -> subprocess.Popen[bytes]:
+    """./kernel test on a made-up machine that stays, once that has begun."""
+    (room / "made.txt").write_text(suites.text_of(test_console.SCRIPTS), encoding="utf-8")
+    words = [TOP / "kernel", "test", "--kernel", room / "cpio", "--scripts", room / "made.txt"]
+    ran = subprocess.Popen(words, stdin=subprocess.DEVNULL, stdout=subprocess.DEVNULL, stderr=subprocess.DEVNULL, start_new_session=True, env={**os.environ, "TMPDIR": str(room)})
+    until = time.monotonic() + 60
+    while not (room / "process").is_file() and time.monotonic() < until:
+        time.sleep(0.1)
+    time.sleep(0.3)
+    return ran
+
+
+def faults_of_endings() -> Iterator[tuple[str, object]]:
+    """That the machine ends with the program, in whatever way and with whichever signal that is ended."""
+    for number in SIGNALS:
+        for is_group in (False, True):
+            with test_console.standing_in(test_console.Machine()) as room:
+                ran = begun(room)
+                (os.killpg if is_group else os.kill)(ran.pid, number)
+                yield f"{number.name} of {'the group' if is_group else 'the program'}", test_console.is_gone(room)
+                ran.wait()
+
+
+def faults_of_ktap() -> Iterator[tuple[str, object]]:
+    """KTAP of a suite of which a script differs: each number is one higher, and a line says what is wrong."""
+    found = testing.judged(Comparison(test_console.MACHINE.program, "6.1", known_issues()), testing.Work("made", [], False), testing.parsed("\n".join(LEAK) + "\n")[1])
+    text = ktap.text([found])
+    expected = ["KTAP version 1", "1..1", "    KTAP version 1", "    # Subtest: made", "    1..1", "    # new: begin 2 alloc 0 0 1", "    not ok 1 a", "not ok 1 made"]
+    yield "KTAP", text.splitlines() == expected or text
+
+
+def faults_of_c() -> Iterator[tuple[str, object]]:
+    """That a difference becomes a program that compiles, makes all its calls, and expects what the machine answers."""
+    difference = Comparison(test_console.MACHINE.program, "6.1", known_issues()).result(testing.parsed("\n".join(LEAK) + "\n")[1][0]).difference
+    text = in_c.program(difference)
+    with tempfile.TemporaryDirectory(prefix="forced-") as name:
+        (Path(name) / "a.c").write_text(text, encoding="utf-8")
+        words = ["cc", "-std=gnu11", "-O2", "-Wall", "-Wextra", "-Werror", "-Wno-unused-function", "-o", Path(name) / "a", Path(name) / "a.c"]
+        yield "a program in C compiles", subprocess.run(words, capture_output=True, text=True, check=False).stderr == "" or text
+    calls = re.findall(r'tell\("(.*?)"', text)
+    yield "its calls", calls == difference.script.lines or calls
+    yield "what it expects", '"done | 0 0 | 2 1 | used 1"' in text or text[-400:]
+
+
+def faults_of_bundles() -> Iterator[tuple[str, object]]:
+    """What a bundle has, and that answers which were brought back are compared as if they had been recorded here."""
+    with tempfile.TemporaryDirectory(prefix="forced-") as name:
+        room = Path(name)
+        bundle.pack(room / "b.tar", [suites.SUITES["fixed"], suites.SUITES["races"]])
+        with tarfile.open(room / "b.tar") as archive:
+            archive.extractall(room)
+        has = {str(it.relative_to(room / bundle.NAME)) for it in (room / bundle.NAME).rglob("*") if it.is_file()}
+        yield "a bundle's files", has == {"record", "run.sh", "scripts/fixed", "scripts/races"} or has
+        yield "run.sh", subprocess.run(["sh", "-n", room / bundle.NAME / "run.sh"], check=False).returncode == 0
+        answers = room / "answers"
+        answers.mkdir()
+        yield "no answers", subprocess.run([TOP / "kernel", "test", "--answers", answers], capture_output=True, check=False).returncode == 2
+        (answers / "fixed").write_bytes((TOP / "conformance" / "calls-fixed.txt").read_bytes())
+        ran = subprocess.run([TOP / "kernel", "test", "--answers", answers], capture_output=True, text=True, check=False)
+        yield "answers of another machine", (ran.returncode, "0 new differences" in ran.stdout) == (0, True) or ran
+        text = (answers / "fixed").read_text(encoding="utf-8")
+        (answers / "fixed").write_text(re.sub(r"(begin 1 map 0 0 \d = mapped 0) \| (\d) ", r"\1 | 7\2 ", text, count=1), encoding="utf-8")
+        ran = subprocess.run([TOP / "kernel", "test", "--answers", answers], capture_output=True, text=True, check=False)
+        yield "wrong answers of another machine", (ran.returncode, "1 new difference" in ran.stdout) == (1, True) or ran
+
+
+def main() -> int:
+    parts = (faults_of_scripts, faults_of_answers, faults_of_vain, faults_of_endings, faults_of_ktap, faults_of_c, faults_of_bundles)
+    tried = [it for part in parts for it in test_console.all_of(part)]
+    faults = [(what, found) for what, found in tried if found is not True]
+    print("".join(f"  {what}: {found}\n" for what, found in faults), end="")
+    print(f"forced: {len(tried) - len(faults)} passed, {len(faults)} failed")
+    return 1 if faults else 0
+
+
+if __name__ == "__main__":
+    try:
+        test_console.MACHINE = machine.machine(None)
+    except machine.Problem as why:
+        sys.exit(f"  {why}\nforced: 0 passed, 1 failed")
+    sys.exit(main())
