@@ -13,6 +13,7 @@ import sys
 import tempfile
 from dataclasses import replace
 from pathlib import Path
+from types import SimpleNamespace
 from typing import Callable, Iterator
 from unittest.mock import ANY, patch
 
@@ -402,7 +403,25 @@ def raises(act: Callable[[], object], kind: type[BaseException]) -> bool:
     return False
 
 
+class Named:
+    """What drgn finds in the memory of a kernel 6.1 by its symbols, of which these are there."""
+
+    def __init__(self, *names: str) -> None:
+        self.names = names
+
+    def __getitem__(self, name: str) -> object:
+        if name == "init_uts_ns":
+            return SimpleNamespace(name=SimpleNamespace(release=SimpleNamespace(string_=lambda: b"6.1")))
+        if name not in self.names:
+            raise KeyError(name)
+        return self
+
+
 def cases_of_drgn() -> Iterator[tuple[str, bool]]:
+    hugetlbfs = ("hugetlbfs_fs_type", "hstates")
+    opened.check_symbols(Named(*hugetlbfs), "6.1")
+    yield "a kernel without hugetlbfs is one line", raises(lambda: opened.check_symbols(Named(), "6.1"), Problem)
+    yield "so is one of another name", raises(lambda: opened.check_symbols(Named(*hugetlbfs), "6.2"), Problem)
     missing = {"drgn": None}
     with patch.dict(sys.modules, missing), patch.dict("os.environ", {"KERNEL_AUDIT_AGAIN": "1"}):
         yield "no drgn is one line", raises(opened.need_drgn, Problem)
