@@ -33,7 +33,7 @@ listed_under values limit from (suc n) le =
     (entry_under limit from (values from) (omega arith)) (listed_under values limit (suc from) n (omega arith))
 
 -- one number more, which comes last
-listed_more : (values : ℕ → Option ℕ) (from n : ℕ)
+pub listed_more : (values : ℕ → Option ℕ) (from n : ℕ)
     → listed values from (suc n) ≡ listed values from n ++ entry_at (from + n) (values (from + n))
 unfolding listed
 listed_more values from zero = let e : from + 0 ≡ from = omega arith in rw e (append-nil (entry_at from (values from)))

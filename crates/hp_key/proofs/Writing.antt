@@ -17,7 +17,7 @@ use Rattle.hp_frames.specs.declared.frame.FrameState.TheVariants.{Free, Hand, Pl
 use Rattle.hp_region.specs.declared.region.Region.{Region}
 use Rattle.hp_core.proofs.Copying.{state_test}
 use Rattle.hp_chunks.specs.Framed.{entry_at, listed}
-use Rattle.hp_chunks.proofs.Listing.{entries-map_below, listed_count}
+use Rattle.hp_chunks.proofs.Listing.{entries-map_below, listed_count, listed_more}
 use Rattle.hp_chunks.proofs.Tables.{same_as}
 use Rattle.hp_base.specs.Pages.{IsPagesEnd}
 use Rattle.hp_key.specs.Key.{frame_number, page_words, region_words, word_in}
@@ -51,15 +51,6 @@ entries_listed m end none =
     ∙ entries-map_below (map.get m) end
 
 -- one index more
-listed_more : (values : ℕ → Option ℕ) (from n : ℕ)
-    → listed values from (suc n) ≡ listed values from n ++ entry_at (from + n) (values (from + n))
-unfolding listed
-listed_more values from zero = let e : from + 0 ≡ from = omega arith in rw e (append-nil (entry_at from (values from)))
-listed_more values from (suc n) =
-    let e : from + suc n ≡ suc from + n = omega arith in
-    rw e (ap (λ es. entry_at from (values from) ++ es) (listed_more values (suc from) n)
-    ∙ sym (append_assoc (entry_at from (values from)) (listed values (suc from) n) (entry_at (suc from + n) (values (suc from + n)))))
-
 pub one_index : (words : ℕ × ℕ → List ℕ) (values : ℕ → Option ℕ) (old before after : List ℕ) (n k : ℕ)
     → before ≡ old ++ (n ∷ flat_map words (listed values 0 k)) → after ≡ before ++ flat_map words (entry_at k (values k))
     → after ≡ old ++ (n ∷ flat_map words (listed values 0 (k + 1)))
