@@ -11,8 +11,9 @@ use Rattle.hp_text.specs.Fits.{IsShort}
 use Rattle.hp_text.specs.Reading.{after_word, number_at, field_at, limit}
 use Rattle.hp_text.specs.Traces.{HasNoEnd}
 use Rattle.hp_text.proofs.Ends.{HasNoEnd-append}
-use Rattle.hp_text.proofs.Lines.{last_again}
+use Rattle.hp_text.proofs.Lines.{last_again, quota_stops}
 use Rattle.hp_text.proofs.Numbers.{number_again, Stops}
+use Rattle.hp_text.proofs.Widths.{decimal_no_end}
 use Rattle.hp_picture.specs.Reading.{count_at, count_field_at, quota_at, counts_at, locked_at, lock_at, size_at, three_at, four_at, frame_line_at, line_at}
 use Rattle.hp_picture.specs.Text.{AreShortCounts, IsShortCount, LineFits, counts_text, line_text, lock_text}
 use Rattle.hp_picture.specs.declared.line.PictureLine.{PictureLine}
@@ -69,10 +70,6 @@ unfolding quota_at
 quota_again None fits = refl
 quota_again (Some n) fits = rw (last_again n fits) refl
 
-quota_stops : (quota : Option ℕ) → Stops (quota_field quota)
-quota_stops None = tt
-quota_stops (Some n) = refl
-
 three_again : (a b d : ℕ) → IsShort a → IsShort b → IsShort d → three_at (decimal a ++ (field b ++ field d)) ≡ Some (a, b, d)
 unfolding three_at
 three_again a b d a_fits b_fits d_fits =
@@ -123,23 +120,6 @@ line_again (says.Translation task file index frame) fits =
 line_again says.End fits = refl
 
 -- ---- no line ends before its end
-
-decimal_no_end : (n : ℕ) → n < 2 ^ 64 → HasNoEnd (decimal n)
-decimal_no_end n small = decimal_by_steps P one more n small
-  where
-    P : ℕ → List ℕ → Type 0
-    P k ds = HasNoEnd ds
-
-    digit : (d : ℕ) → d < 10 → HasNoEnd ((48 + d) ∷ [])
-    digit d lt =
-        let other : eqb (48 + d) 10 ≡ false = ne_eqb _ _ (λ (e : 48 + d ≡ 10). absurd (omega arith)) in
-        rw other refl
-
-    one : (k : ℕ) → k < 10 → P k ((48 + k) ∷ [])
-    one k lt = digit k lt
-
-    more : (k : ℕ) (ds : List ℕ) → 10 ≤ k → P (k / 10) ds → P k (ds ++ ((48 + k % 10) ∷ []))
-    more k ds ge before = HasNoEnd-append ds _ before (digit (k % 10) (omega arith))
 
 short_no_end : (n : ℕ) → IsShort n → HasNoEnd (decimal n)
 short_no_end n fits = decimal_no_end n (omega (arith, fits))

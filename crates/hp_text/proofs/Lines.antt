@@ -408,7 +408,7 @@ quota_again (Some n) fits =
     ap (λ (o : Option ℕ). o >>= λ k. Some (Some k)) read
 
 -- a number ends before it
-quota_stops : (quota : Option ℕ) → Stops (quota_field quota)
+pub quota_stops : (quota : Option ℕ) → Stops (quota_field quota)
 quota_stops None = tt
 quota_stops (Some n) = refl
 

@@ -28,7 +28,8 @@ joined m n a b p q =
 wider : (m n : ℕ) (a : List ℕ) → m ≤ n → IsInLine m a → IsInLine n a
 wider m n a le p = record { width = omega (arith, p.width); no_end = p.no_end }
 
-decimal_no_end : (n : ℕ) → n < 2 ^ 64 → HasNoEnd (decimal n)
+-- no line ends in a number
+pub decimal_no_end : (n : ℕ) → n < 2 ^ 64 → HasNoEnd (decimal n)
 decimal_no_end n small = decimal_by_steps P one more n small
   where
     P : ℕ → List ℕ → Type 0
