@@ -1,5 +1,5 @@
 -- The first line of some bytes, what is behind it, and what a feed took of it.
-use Rattle.std.proofs.Common.{◌≡◌, ℕ, ◌<◌, ◌≤◌, Bool, true, false, eqb, List, [], ◌∷◌, ◌++◌, length, drop, Option, None, refl, ap, arith}
+use Rattle.std.proofs.Common.{◌≡◌, ℕ, ◌+◌, ◌<◌, ◌≤◌, Bool, true, false, eqb, List, [], ◌∷◌, ◌++◌, length, drop, Option, None, refl, ap, arith}
 use Rattle.std.proofs.Common.{length-append}
 use Rattle.std.specs.Io.BufRead.{take_through}
 use Rattle.hp_text.specs.Lines.{FeedState, Line, feed_after, lines_after, listed}
@@ -29,6 +29,11 @@ through_some (x ∷ xs) lt = by (eqb x 10) refl
     by : (end : Bool) → eqb x 10 ≡ end → 0 < length (take_through 10 (x ∷ xs))
     by true e = rw e (omega arith)
     by false e = rw e (omega arith)
+
+-- less is left behind a first line
+pub through_left : (xs : List ℕ) (used left : ℕ) → 0 < length xs → used ≡ length (take_through 10 xs) → left + used ≡ length xs
+    → left < length xs
+through_left xs used left some is rest = omega (arith, through_some xs some, through_within xs, is, rest)
 
 -- what feed.take told of the line that the rest begins with
 pub record TookLine (h next : FeedState) (line : Option Line) (rest left : List ℕ) : Type 0 where

@@ -1,8 +1,8 @@
-use Rattle.std.proofs.Common.{arith, rules, length, ◌<◌, ◌≡◌, drop, ◌∙◌, ap}
+use Rattle.std.proofs.Common.{arith, rules, length, ◌≡◌, drop, ◌∙◌, ap}
 use Rattle.std.specs.Prelude.{Some}
 use Rattle.std.specs.Io.BufRead.{take_through}
 use Rattle.std.proofs.lemmas.Result.{err_from_is_err_and}
-use Rattle.hp_text.proofs.FirstLines.{through_within, through_some}
+use Rattle.hp_text.proofs.FirstLines.{through_left, through_within}
 use Rattle.hp_replay.proofs.Running.{starts, piece_moves, piece_stops}
 use Rattle.hp_replay.proofs.replaying.run_piece.Goals as goal
 
@@ -32,6 +32,4 @@ loop-rest-preserved c =
 
 pub loop-rest-smaller : goal.loop-rest-smaller
 loop-rest-smaller c =
-    let some : 0 < length c.loop-rest.rest.now = first_of (omega arith, search rules) in
-    let within = through_within c.loop-rest.rest.now in
-    omega (arith, through_some c.loop-rest.rest.now some, c.split_at.ensures.back_len, c.in_ok-used.ensures.used)
+    through_left c.loop-rest.rest.now _ _ (first_of (omega arith, search rules)) c.in_ok-used.ensures.used c.split_at.ensures.back_len

@@ -1,10 +1,10 @@
-use Rattle.std.proofs.Common.{arith, rules, length, ◌<◌, ◌≡◌, drop, ◌∙◌, ap, refl}
+use Rattle.std.proofs.Common.{arith, rules, length, ◌≡◌, drop, ◌∙◌, ap, refl}
 use Rattle.std.specs.Option.{option_map}
 use Rattle.std.specs.Io.BufRead.{take_through}
 use Rattle.std.proofs.lemmas.Result.{err_from_is_err_and}
 use Rattle.hp_text.specs.Lines.{line_of}
 use Rattle.hp_text.specs.Scripts.{no_memory}
-use Rattle.hp_text.proofs.FirstLines.{TookLine, through_within, through_some}
+use Rattle.hp_text.proofs.FirstLines.{TookLine, through_left, through_within}
 use Rattle.hp_text.proofs.Drafts.{starts, line_can_follow, adds}
 use Rattle.hp_text.proofs.Calls.{one_more, bad_line, other_event}
 use Rattle.hp_text.proofs.script.add_calls.Goals as goal
@@ -68,6 +68,4 @@ returns-in_err-add_taken-clause-err c =
 
 pub loop-rest-smaller : goal.loop-rest-smaller
 loop-rest-smaller c =
-    let some : 0 < length c.loop-rest.rest.now = first_of (omega arith, search rules) in
-    let within = through_within c.loop-rest.rest.now in
-    omega (arith, through_some c.loop-rest.rest.now some, c.split_at.ensures.back_len, c.in_ok-used.ensures.used)
+    through_left c.loop-rest.rest.now _ _ (first_of (omega arith, search rules)) c.in_ok-used.ensures.used c.split_at.ensures.back_len

@@ -1,9 +1,9 @@
-use Rattle.std.proofs.Common.{arith, rules, length, ◌<◌, ◌≡◌, drop, ◌∙◌, ap, refl, inr}
+use Rattle.std.proofs.Common.{arith, rules, length, ◌≡◌, drop, ◌∙◌, ap, refl, inr}
 use Rattle.std.specs.Option.{option_map}
 use Rattle.std.specs.Io.BufRead.{take_through}
 use Rattle.std.proofs.lemmas.Result.{err_from_is_err_and}
 use Rattle.hp_text.specs.Lines.{line_of}
-use Rattle.hp_text.proofs.FirstLines.{TookLine, through_within, through_some}
+use Rattle.hp_text.proofs.FirstLines.{TookLine, through_left, through_within}
 use Rattle.hp_text.proofs.Drafts.{starts, line_can_follow, adds, not_added, no_room}
 use Rattle.hp_text.proofs.trace.add_piece.Goals as goal
 
@@ -61,6 +61,4 @@ returns-in_err-add_taken-clause-err c =
 
 pub loop-rest-smaller : goal.loop-rest-smaller
 loop-rest-smaller c =
-    let some : 0 < length c.loop-rest.rest.now = first_of (omega arith, search rules) in
-    let within = through_within c.loop-rest.rest.now in
-    omega (arith, through_some c.loop-rest.rest.now some, c.split_at.ensures.back_len, c.in_ok-used.ensures.used)
+    through_left c.loop-rest.rest.now _ _ (first_of (omega arith, search rules)) c.in_ok-used.ensures.used c.split_at.ensures.back_len
