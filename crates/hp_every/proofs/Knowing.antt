@@ -6,6 +6,7 @@ use Rattle.std.proofs.Math.Path.{fun_ext}
 use Rattle.hp_base.specs.Indices.{count_below}
 use Rattle.hp_base.specs.declared.answer.Answer.{Answer}
 use Rattle.hp_base.specs.declared.limits.TheConstants.{LIMIT}
+use Rattle.hp_machine.specs.Events.{is_begun}
 use Rattle.hp_machine.specs.Headline.{all_calls}
 use Rattle.hp_machine.specs.State.{State}
 use Rattle.hp_alike.proofs.Twins.{Twins, blocked_there, same_free, same_resv, still_some}
@@ -15,7 +16,7 @@ use Rattle.hp_core.specs.Readers as readers
 use Rattle.hp_core.specs.Runs.{Row}
 use Rattle.hp_core.specs.Waiting.{WaitsFor}
 use Rattle.hp_watch.specs.Moments.{Moment, Once, events_of, last_of}
-use Rattle.hp_watch.specs.Calls.{AreCalls, asked_word, calls_begun, is_begin, is_begun, last_call}
+use Rattle.hp_watch.specs.Calls.{AreCalls, asked_word, calls_begun, is_begin, last_call}
 use Rattle.hp_watch.specs.declared.call_word.CallWord.{CallWord}
 use Rattle.hp_watch.specs.declared.calls.TaskCalls.{TaskCalls}
 use Rattle.hp_hunt.specs.Conditions.{Compares, Finds, HasCount, IsEnd, IsMetAt, IsSoughtEnd, IsStepOf, Meets, count_of}

@@ -3,13 +3,14 @@ use Rattle.std.proofs.Common.{◌≡◌, ℕ, suc, ◌+◌, ◌<◌, refl, ap, s
 use Rattle.std.specs.Prelude.{◌&&◌, Some, if◌then◌else◌}
 use Rattle.hp_base.specs.declared.event.Event.{Event}
 use Rattle.hp_base.specs.declared.event.Event.TheVariants.{Begin, Step, Kill, Resize}
+use Rattle.hp_machine.specs.Events.{is_begun}
 use Rattle.hp_machine.specs.declared.outcome.Outcome.{Outcome}
 use Rattle.hp_core.specs.State.{CoreState}
 use Rattle.hp_core.specs.Readers.{phase_of}
 use Rattle.hp_text.specs.declared.script.Script.{Script}
 use Rattle.hp_watch.specs.Moments.{Moment, Once, last_of}
 use Rattle.hp_explore.specs.declared.line.Finish.TheVariants.{Finished}
-use Rattle.hp_watch.specs.Calls.{asked_word, calls_begun, is_begin, is_begun, last_call}
+use Rattle.hp_watch.specs.Calls.{asked_word, calls_begun, is_begin, last_call}
 use Rattle.hp_watch.specs.declared.call_word.CallWord.{CallWord}
 use Rattle.hp_hunt.specs.Conditions.{Finds, HasCount, IsEnd, IsMetAt, IsSomeBlocked, IsSoughtEnd, IsStepOf, Meets, MeetsChoice, SomeRunMisses}
 use Rattle.hp_hunt.specs.declared.condition.Condition.{Condition}

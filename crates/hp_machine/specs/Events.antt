@@ -55,6 +55,16 @@ abbrev pub is_exit : Op → Bool
 is_exit op.Exit = true
 is_exit other = false
 
+-- a call is begun
+abbrev pub is_begun : Outcome → Bool
+is_begun outcome.Begun = true
+is_begun (outcome.Moved phase) = false
+is_begun (outcome.Blocked holder) = false
+is_begun (outcome.Ended answer) = false
+is_begun outcome.Marked = false
+is_begun (outcome.Resized frames) = false
+is_begun (outcome.Refused why) = false
+
 -- the word of the phase in which a call stands
 abbrev pub word_of : Call → Phase
 word_of (call.Touch (touch.Look p)) = word.Look

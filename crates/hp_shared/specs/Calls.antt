@@ -4,7 +4,7 @@ use Rattle.hp_base.specs.declared.answer.Answer.{Answer}
 use Rattle.hp_base.specs.declared.event.Op.{Op}
 use Rattle.hp_base.specs.declared.event.Event.{Event}
 use Rattle.hp_base.specs.declared.event.Event.TheVariants.{Begin, Step, Kill, Resize}
-use Rattle.hp_machine.specs.Events.{first, word_of}
+use Rattle.hp_machine.specs.Events.{first, is_begun, word_of}
 use Rattle.hp_machine.specs.declared.outcome.Outcome.{Outcome}
 use Rattle.hp_machine.specs.declared.outcome.Outcome.TheVariants.{Begun, Moved, Blocked, Ended, Marked, Resized, Refused}
 use Rattle.hp_machine.specs.declared.phase.Phase.{Phase}
@@ -17,15 +17,6 @@ IsOwn task (Begin t op) = t ≡ task
 IsOwn task (Step t grant) = t ≡ task
 IsOwn task (Kill t) = Unit {0}
 IsOwn task (Resize frames) = Unit {0}
-
-abbrev pub is_begun : Outcome → Bool
-is_begun Begun = true
-is_begun (Moved phase) = false
-is_begun (Blocked holder) = false
-is_begun (Ended answer) = false
-is_begun Marked = false
-is_begun (Resized frames) = false
-is_begun (Refused why) = false
 
 abbrev pub is_ended : Outcome → Bool
 is_ended Begun = false

@@ -1,8 +1,8 @@
 //! What a task keeps of a running pool.
 ghost use Rattle.std.specs.Prelude.{◌≡◌, ◌+◌, ◌<◌, ◌^◌, ◌++◌, ◌∷◌, [], length, if◌then◌else◌};
-ghost use Rattle.hp_machine.specs.Events.{first, word_of};
+ghost use Rattle.hp_machine.specs.Events.{first, is_begun, word_of};
 ghost use Rattle.hp_machine.specs.declared.phase.Phase.TheVariants.{Start};
-ghost use Rattle.hp_shared.specs.Calls.{in_call, is_begun, is_ended, phase_after, phase_of};
+ghost use Rattle.hp_shared.specs.Calls.{in_call, is_ended, phase_after, phase_of};
 ghost use Rattle.hp_shared.specs.Cutting.{emptied};
 ghost use Rattle.hp_shared.specs.Seats.{new_seat};
 

@@ -7,11 +7,12 @@ use Rattle.hp_base.proofs.Puts.{same_or_other}
 use Rattle.hp_base.specs.declared.event.Event.{Event}
 use Rattle.hp_base.specs.declared.event.Event.TheVariants.{Begin, Step, Kill, Resize}
 use Rattle.hp_base.specs.declared.event.Op.{Op}
+use Rattle.hp_machine.specs.Events.{is_begun}
 use Rattle.hp_machine.specs.declared.outcome.Outcome.{Outcome}
 use Rattle.hp_machine.specs.declared.outcome.Outcome.TheVariants.{Begun, Moved, Blocked, Ended, Marked, Resized, Refused}
 use Rattle.hp_core.specs.State.{CoreState}
 use Rattle.hp_watch.specs.CallWords.{word_of}
-use Rattle.hp_watch.specs.Calls.{AreCalls, asked_word, calls_begun, calls_of, is_begin, is_begun, last_call, none_begun}
+use Rattle.hp_watch.specs.Calls.{AreCalls, asked_word, calls_begun, calls_of, is_begin, last_call, none_begun}
 use Rattle.hp_watch.specs.Moments.{Moment}
 use Rattle.hp_watch.specs.declared.calls.TaskCalls.{TaskCalls}
 

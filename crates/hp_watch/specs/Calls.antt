@@ -2,6 +2,7 @@
 use Rattle.std.specs.Prelude.{◌≡◌, ◌==◌, ◌+◌, ◌&&◌, ◌++◌, ◌∷◌, [], ℕ, Bool, true, false, if◌then◌else◌, List, slice_index_or}
 use Rattle.hp_base.specs.declared.event.Event.{Event}
 use Rattle.hp_base.specs.declared.event.Event.TheVariants.{Begin, Step, Kill, Resize}
+use Rattle.hp_machine.specs.Events.{is_begun}
 use Rattle.hp_machine.specs.declared.outcome.Outcome.{Outcome}
 use Rattle.hp_machine.specs.declared.outcome.Outcome.TheVariants.{Begun, Moved, Blocked, Ended, Marked, Resized, Refused}
 use Rattle.hp_watch.specs.CallWords.{word_of}
@@ -17,16 +18,6 @@ is_begin t (Begin u op) = u == t
 is_begin t (Step u granted) = false
 is_begin t (Kill u) = false
 is_begin t (Resize frames) = false
-
--- and the call is in flight
-abbrev pub is_begun : Outcome → Bool
-is_begun Begun = true
-is_begun (Moved phase) = false
-is_begun (Blocked holder) = false
-is_begun (Ended answer) = false
-is_begun Marked = false
-is_begun (Resized frames) = false
-is_begun (Refused why) = false
 
 -- which call it asks for
 abbrev pub asked_word : Event → CallWord

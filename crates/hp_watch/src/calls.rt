@@ -1,7 +1,8 @@
 //! Which calls tasks have begun, and with what their calls end.
 ghost use Rattle.std.specs.Prelude.{◌≡◌, ◌&&◌, ◌<◌, ℕ, false, List, [], ◌∷◌, IfSome, OnErr, OnOk, None, length, slice_index_or};
 ghost use Rattle.hp_core.specs.State.{CoreState};
-ghost use Rattle.hp_watch.specs.Calls.{AreCalls, calls_of, ended_by, is_begin, is_begun};
+ghost use Rattle.hp_machine.specs.Events.{is_begun};
+ghost use Rattle.hp_watch.specs.Calls.{AreCalls, calls_of, ended_by, is_begin};
 ghost use Rattle.hp_watch.specs.Moments.{Moment};
 
 use crate::call_word::{CallWord, word_of};

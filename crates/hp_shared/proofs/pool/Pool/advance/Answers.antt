@@ -1,6 +1,7 @@
 use Rattle.std.proofs.Common.{◌≡◌, ◌+◌, ◌∷◌, ◌++◌, [], false, true, length, sym, ap, ◌∙◌, arith, length-append}
 use Rattle.hp_machine.specs.declared.phase.Phase.TheVariants.{Start}
-use Rattle.hp_shared.specs.Calls.{count_begun, count_ended, is_begun, is_ended, phase_after, phase_of}
+use Rattle.hp_machine.specs.Events.{is_begun}
+use Rattle.hp_shared.specs.Calls.{count_begun, count_ended, is_ended, phase_after, phase_of}
 use Rattle.hp_shared.specs.Journal.{entry, is_made}
 use Rattle.hp_shared.specs.States.{PoolState}
 use Rattle.hp_shared.specs.declared.entry.Entry.{Entry}
