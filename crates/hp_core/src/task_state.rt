@@ -107,30 +107,20 @@ pub fn step_call(
     let killed = is_killed(task_state.life);
     match task_state.call.take() {
         Some(Call::Touch(phase)) => {
-            settle(
-                task_state,
-                false,
-                step_touch(parts, task, killed, grant, phase),
-            )
+            let turn = step_touch(parts, task, killed, grant, phase);
+            settle(task_state, false, turn)
         }
-        Some(Call::Map(phase)) => settle(
-            task_state,
-            false,
-            step_map(parts, task, killed, grant, phase),
-        ),
+        Some(Call::Map(phase)) => {
+            let turn = step_map(parts, task, killed, grant, phase);
+            settle(task_state, false, turn)
+        }
         Some(Call::Alloc(phase)) => {
-            settle(
-                task_state,
-                false,
-                step_alloc(parts, task, killed, grant, phase),
-            )
+            let turn = step_alloc(parts, task, killed, grant, phase);
+            settle(task_state, false, turn)
         }
         Some(Call::Punch(phase)) => {
-            settle(
-                task_state,
-                false,
-                step_punch(parts, task, killed, grant, phase),
-            )
+            let turn = step_punch(parts, task, killed, grant, phase);
+            settle(task_state, false, turn)
         }
         Some(Call::Truncate(phase)) => {
             let turn = step_truncate(parts, task, killed, grant, phase);

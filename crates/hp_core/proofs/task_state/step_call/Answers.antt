@@ -10,22 +10,22 @@ use Rattle.hp_core.proofs.task_state.step_call.Goals as goal
 pub returns-in-Some-Touch-clause-row : goal.returns-in-Some-Touch-clause-row
 returns-in-Some-Touch-clause-row c =
     task_state_row _ _ _ _ _ _ _ _ _ _ (sym c.take.ensures.value ∙ c.in-Some-Touch.is ∙ ap (λ it. Some it) c.in-Some-Touch.field-0-is)
-    c.is_killed-killed.ensures (touch_row _ _ _ _ _ _ _ _ _ c.settle.ensures.call c.step_touch.ensures.row)
+    c.is_killed-killed.ensures (touch_row _ _ _ _ _ _ _ _ _ c.settle.ensures.call c.step_touch-turn.ensures.row)
 
 pub returns-in-Some-Map-clause-row : goal.returns-in-Some-Map-clause-row
 returns-in-Some-Map-clause-row c =
     task_state_row _ _ _ _ _ _ _ _ _ _ (sym c.take.ensures.value ∙ c.in-Some-Map.is ∙ ap (λ it. Some it) c.in-Some-Map.field-0-is)
-    c.is_killed-killed.ensures (map_row _ _ _ _ _ _ _ _ _ c.settle-in-Some-Map.ensures.call c.step_map.ensures.row)
+    c.is_killed-killed.ensures (map_row _ _ _ _ _ _ _ _ _ c.settle-in-Some-Map.ensures.call c.step_map-turn.ensures.row)
 
 pub returns-in-Some-Alloc-clause-row : goal.returns-in-Some-Alloc-clause-row
 returns-in-Some-Alloc-clause-row c =
     task_state_row _ _ _ _ _ _ _ _ _ _ (sym c.take.ensures.value ∙ c.in-Some-Alloc.is ∙ ap (λ it. Some it) c.in-Some-Alloc.field-0-is)
-    c.is_killed-killed.ensures (alloc_row _ _ _ _ _ _ _ _ _ c.settle-in-Some-Alloc.ensures.call c.step_alloc.ensures.row)
+    c.is_killed-killed.ensures (alloc_row _ _ _ _ _ _ _ _ _ c.settle-in-Some-Alloc.ensures.call c.step_alloc-turn.ensures.row)
 
 pub returns-in-Some-Punch-clause-row : goal.returns-in-Some-Punch-clause-row
 returns-in-Some-Punch-clause-row c =
     task_state_row _ _ _ _ _ _ _ _ _ _ (sym c.take.ensures.value ∙ c.in-Some-Punch.is ∙ ap (λ it. Some it) c.in-Some-Punch.field-0-is)
-    c.is_killed-killed.ensures (punch_row _ _ _ _ _ _ _ _ _ c.settle-in-Some-Punch.ensures.call c.step_punch.ensures.row)
+    c.is_killed-killed.ensures (punch_row _ _ _ _ _ _ _ _ _ c.settle-in-Some-Punch.ensures.call c.step_punch-turn.ensures.row)
 
 pub returns-in-Some-Truncate-clause-row : goal.returns-in-Some-Truncate-clause-row
 returns-in-Some-Truncate-clause-row c =
@@ -45,8 +45,8 @@ returns-in-Some-Exit-clause-row c =
 pub returns-in-Some-Punch-clause-memory : goal.returns-in-Some-Punch-clause-memory
 returns-in-Some-Punch-clause-memory c =
     record {
-      sizes = c.step_punch.ensures.memory.sizes;
-      capacity = λ no. c.step_punch.ensures.memory.capacity
+      sizes = c.step_punch-turn.ensures.memory.sizes;
+      capacity = λ no. c.step_punch-turn.ensures.memory.capacity
           (λ yes. no (
             yes.0,
             task_state_wants (view c.args.parts.now) c.args.task c.args.task_state.now.call (call.Punch c.in-Some-Punch.phase)
@@ -57,22 +57,22 @@ returns-in-Some-Punch-clause-memory c =
 pub returns-in-Some-Touch-clause-blocked : goal.returns-in-Some-Touch-clause-blocked
 returns-in-Some-Touch-clause-blocked c =
     settled_blocked call.Touch _ _ _ _ _ _ (sym c.take.ensures.value ∙ c.in-Some-Touch.is ∙ ap (λ it. Some it) c.in-Some-Touch.field-0-is)
-    c.settle.ensures.life c.settle.ensures.call c.step_touch.ensures.blocked
+    c.settle.ensures.life c.settle.ensures.call c.step_touch-turn.ensures.blocked
 
 pub returns-in-Some-Map-clause-blocked : goal.returns-in-Some-Map-clause-blocked
 returns-in-Some-Map-clause-blocked c =
     settled_blocked call.Map _ _ _ _ _ _ (sym c.take.ensures.value ∙ c.in-Some-Map.is ∙ ap (λ it. Some it) c.in-Some-Map.field-0-is)
-    c.settle-in-Some-Map.ensures.life c.settle-in-Some-Map.ensures.call c.step_map.ensures.blocked
+    c.settle-in-Some-Map.ensures.life c.settle-in-Some-Map.ensures.call c.step_map-turn.ensures.blocked
 
 pub returns-in-Some-Alloc-clause-blocked : goal.returns-in-Some-Alloc-clause-blocked
 returns-in-Some-Alloc-clause-blocked c =
     settled_blocked call.Alloc _ _ _ _ _ _ (sym c.take.ensures.value ∙ c.in-Some-Alloc.is ∙ ap (λ it. Some it) c.in-Some-Alloc.field-0-is)
-    c.settle-in-Some-Alloc.ensures.life c.settle-in-Some-Alloc.ensures.call c.step_alloc.ensures.blocked
+    c.settle-in-Some-Alloc.ensures.life c.settle-in-Some-Alloc.ensures.call c.step_alloc-turn.ensures.blocked
 
 pub returns-in-Some-Punch-clause-blocked : goal.returns-in-Some-Punch-clause-blocked
 returns-in-Some-Punch-clause-blocked c =
     settled_blocked call.Punch _ _ _ _ _ _ (sym c.take.ensures.value ∙ c.in-Some-Punch.is ∙ ap (λ it. Some it) c.in-Some-Punch.field-0-is)
-    c.settle-in-Some-Punch.ensures.life c.settle-in-Some-Punch.ensures.call c.step_punch.ensures.blocked
+    c.settle-in-Some-Punch.ensures.life c.settle-in-Some-Punch.ensures.call c.step_punch-turn.ensures.blocked
 
 pub returns-in-Some-Truncate-clause-blocked : goal.returns-in-Some-Truncate-clause-blocked
 returns-in-Some-Truncate-clause-blocked c =
