@@ -12,7 +12,7 @@ use Rattle.hp_base.proofs.Counting.{count_below_le}
 use Rattle.hp_base.specs.declared.limits.TheConstants.{LIMIT}
 use Rattle.hp_picture.specs.Text.{AreShortCounts, IsShortCount}
 use Rattle.hp_text.specs.Fits.{IsShort}
-use Rattle.hp_picture_commands.specs.Flat.{counts_of, numbered}
+use Rattle.hp_agree.specs.Flat.{counts_of, numbered}
 
 -- the entries of one more file
 behind : {A : Type 0} (of : FilePicture → List (ℕ × A)) (n : ℕ) (files : List FilePicture) (file : FilePicture)

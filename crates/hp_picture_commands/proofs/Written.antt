@@ -19,7 +19,7 @@ use Rattle.hp_machine.specs.State.{Geometry}
 use Rattle.hp_picture.specs.Pictures.{PlacesState, picture_of}
 use Rattle.hp_picture.specs.Text.{AreShortCounts, picture_text}
 use Rattle.hp_picture.specs.declared.picture.Counts.{Counts}
-use Rattle.hp_picture_commands.specs.Flat.{counts_of, places_of}
+use Rattle.hp_agree.specs.Flat.{counts_of, places_of}
 use Rattle.hp_picture_commands.specs.States.{AnsweredState, IsEndText, IsStateText, Writes, WroteSomeState, WroteState}
 use Rattle.hp_program.specs.Answers.{NotDone, OfTrace}
 use Rattle.hp_program.proofs.Answers.{HasFront, Passes, answered_text, flushed_whole, no_trace_fault}

@@ -11,7 +11,7 @@ use Rattle.hp_core.specs.State.{CoreState}
 use Rattle.hp_format.specs.Drafts.{IsLed}
 use Rattle.hp_picture.specs.Pictures.{picture_of}
 use Rattle.hp_picture.specs.Text.{picture_text}
-use Rattle.hp_picture_commands.specs.Flat.{counts_of, places_of}
+use Rattle.hp_agree.specs.Flat.{counts_of, places_of}
 use Rattle.hp_program.specs.Answers.{AnsweredText, OfTrace}
 use Rattle.hp_text.specs.Traces.{HasFault}
 use Rattle.hp_text.specs.Writing.{Wrote}

@@ -3,7 +3,7 @@ ghost use Rattle.std.specs.Prelude.{◌≡◌, ◌≤◌, ◌++◌, IfOk, IfSome
 ghost use Rattle.hp_audit.specs.Findings.{IsRight};
 ghost use Rattle.hp_picture.specs.Text.{AreShortCounts};
 ghost use Rattle.hp_text.specs.Fits.{IsShort};
-ghost use Rattle.hp_picture_commands.specs.Flat.{counts_of, numbered, places_of};
+ghost use Rattle.hp_agree.specs.Flat.{counts_of, numbered, places_of};
 
 use hp_audit::{FilePicture, Picture};
 use hp_base::{File, Frame, Index, Task};

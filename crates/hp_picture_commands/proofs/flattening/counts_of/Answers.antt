@@ -1,6 +1,6 @@
 use Rattle.std.proofs.Common.{◌≡◌, rules, subst, sym}
 use Rattle.hp_picture.specs.Text.{AreShortCounts}
-use Rattle.hp_picture_commands.specs.Flat.{counts_of}
+use Rattle.hp_agree.specs.Flat.{counts_of}
 use Rattle.hp_picture_commands.proofs.Flattened.{short_counts}
 use Rattle.hp_picture_commands.proofs.flattening.counts_of.Goals as goal
 

@@ -1,5 +1,5 @@
 use Rattle.std.proofs.Common.{◌≡◌, take}
-use Rattle.hp_picture_commands.specs.Flat.{numbered}
+use Rattle.hp_agree.specs.Flat.{numbered}
 use Rattle.hp_picture_commands.proofs.flattening.regions.Given as goal
 
 abbrev pub invariant-loop-number : goal.invariant-loop-number

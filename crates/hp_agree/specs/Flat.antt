@@ -1,4 +1,4 @@
--- A core's picture, whose files have lists of their own, as one of lines, in which each entry has its file's number.
+-- A picture whose files have lists of their own, as one of lines, in which each entry has its file's number.
 use Rattle.std.specs.Prelude.{ℕ, ◌+◌, pos, List, [], ◌∷◌, ◌++◌, map}
 use Rattle.hp_audit.specs.declared.picture.FilePicture.{FilePicture}
 use Rattle.hp_audit.specs.declared.picture.Picture.{Picture}

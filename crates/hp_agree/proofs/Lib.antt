@@ -1,0 +1,9 @@
+pub mod Lists
+pub mod Rising
+pub mod Numbered
+pub mod Reserved
+pub mod Either
+pub mod Kept
+pub mod Order
+pub mod EachKind
+pub mod Agreement

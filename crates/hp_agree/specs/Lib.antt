@@ -1,0 +1,3 @@
+pub mod Flat
+pub mod Listed
+pub mod Agreement
