@@ -1,3 +1,4 @@
+mod Listed
 mod Audited
 mod Flattened
 mod Written

@@ -3,6 +3,8 @@ use Rattle.std.proofs.Common.{◌≡◌, ◌≤◌, ◌⊎◌, ℕ, List, Option
 use Rattle.std.specs.Prelude.{OnOk, OnErr, IfErr, IfSome, Result, Ok, Err, nat_lt}
 use Rattle.std.specs.Io.KnownBytes.{Appends, Keeps, append_known}
 use Rattle.std.proofs.KnownBytes.{Appends-kept}
+use Rattle.hp_agree.proofs.Agreement.{agree_on_listed}
+use Rattle.hp_agree.specs.Flat.{counts_of, places_of}
 use Rattle.hp_audit.specs.Findings.{IsRight}
 use Rattle.hp_audit.specs.declared.picture.Picture.{Picture}
 use Rattle.hp_base.specs.Limits.{IsWithinLimits}
@@ -19,7 +21,7 @@ use Rattle.hp_machine.specs.State.{Geometry}
 use Rattle.hp_picture.specs.Pictures.{PlacesState, picture_of}
 use Rattle.hp_picture.specs.Text.{AreShortCounts, picture_text}
 use Rattle.hp_picture.specs.declared.picture.Counts.{Counts}
-use Rattle.hp_agree.specs.Flat.{counts_of, places_of}
+use Rattle.hp_picture_commands.proofs.Listed.{is_listed}
 use Rattle.hp_picture_commands.specs.States.{AnsweredState, IsEndText, IsStateText, Writes, WroteSomeState, WroteState}
 use Rattle.hp_program.specs.Answers.{NotDone, OfTrace}
 use Rattle.hp_program.proofs.Answers.{HasFront, Passes, answered_text, flushed_whole, no_trace_fault}
@@ -58,6 +60,7 @@ state_text s p counts places of right counts_are places_are again =
       picture = p;
       of_core = of;
       right = right;
+      nothing = ((agree_on_listed p (is_listed s p of)).0 right).1;
       is = rw (counts_are, places_are) refl;
       again = rw (← counts_are, ← places_are) again;
     }

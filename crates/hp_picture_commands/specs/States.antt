@@ -1,6 +1,8 @@
 -- What comes of `hugepool replay --picture`.
 use Rattle.std.specs.Prelude.{◌≡◌, ℕ, List, Option, Result, Ok}
 use Rattle.std.specs.Io.KnownBytes.{Appends}
+use Rattle.hp_agree.specs.Agreement.{FindsNothing}
+use Rattle.hp_agree.specs.Flat.{counts_of, places_of}
 use Rattle.hp_audit.specs.Findings.{IsRight}
 use Rattle.hp_audit.specs.declared.picture.Picture.{Picture}
 use Rattle.hp_base.specs.Text.{Sizes, sizes}
@@ -11,7 +13,6 @@ use Rattle.hp_core.specs.State.{CoreState}
 use Rattle.hp_format.specs.Drafts.{IsLed}
 use Rattle.hp_picture.specs.Pictures.{picture_of}
 use Rattle.hp_picture.specs.Text.{picture_text}
-use Rattle.hp_agree.specs.Flat.{counts_of, places_of}
 use Rattle.hp_program.specs.Answers.{AnsweredText, OfTrace}
 use Rattle.hp_text.specs.Traces.{HasFault}
 use Rattle.hp_text.specs.Writing.{Wrote}
@@ -19,11 +20,12 @@ use Rattle.hp_text.specs.declared.fault.ReplayFault.{ReplayFault}
 
 -- A reader had the bytes `from` left, and now has `to`; an output held `before`, and now holds `after`.
 
--- the text spells a picture of the core, with which nothing is wrong, and is read as just this
+-- the text spells a picture of the core, with which nothing is wrong and in which `audit` finds nothing, and is read as just this
 pub record IsStateText (core : CoreState) (text : List ℕ) : Type 0 where
   pub picture : Picture
   pub of_core : IsPicture core picture
   pub right : IsRight picture
+  pub nothing : FindsNothing picture
   pub is : text ≡ picture_text (counts_of picture) (places_of picture)
   pub again : picture_of text ≡ Ok (counts_of picture, places_of picture)
 
