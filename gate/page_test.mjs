@@ -1,13 +1,50 @@
 #!/usr/bin/env node
-// Tries the page's functions that read a run and search it, on a run that is written out here. The last line is 'N passed, M failed'.
+// Tries the page's functions that read a run, search it, draw it and tell of it, on runs that are written out here, with a page and a
+// canvas that remember what is put on them. The last line is 'N passed, M failed'.
 import fs from "node:fs";
 import vm from "node:vm";
 
 const PAGE = new URL("../crates/hp_page/page/", import.meta.url);
-const NAMES = "readRun, standingAt, waitAt, lifeAt, findEvents, nextMatch, rangeOf, seriesOf, eventAt, eventWords, outcomeWords, waitWords";
-const source = ["run.js", "search.js"].map((name) => fs.readFileSync(new URL(name, PAGE), "utf8")).join("");
-const page = vm.runInThisContext(`"use strict";(() => {${source}; return { ${NAMES} }; })()`);
+const SOURCES = ["run.js", "search.js", "picture.js", "page.js"];
+const NAMES = [
+  ..."readRun, standingAt, waitAt, lifeAt, findEvents, nextMatch, rangeOf, seriesOf, eventAt, eventWords, outcomeWords, waitWords".split(", "),
+  ..."view, topOf, drawCurves, drawLanes, sayCounts, sayWaits".split(", "),
+];
+
+// ---- a page without a browser
+
+/** An element, which knows its words and what is in it. */
+function newElement() {
+  const made = {
+    own: "", inside: [], style: {}, getContext: () => newContext(), addEventListener: () => {}, setAttribute: () => {},
+    append: (...more) => made.inside.push(...more), replaceChildren: (...more) => { made.inside = more; },
+    set textContent(words) { made.own = `${words}`; },
+    get textContent() { return made.own + made.inside.map((it) => it.textContent ?? it).join(" "); },
+  };
+  return made;
+}
+
+/** What draws, and keeps the corners of each line with its colour. */
+function newContext() {
+  const lines = [];
+  let corners = [];
+  const kept = {
+    lines, beginPath: () => { corners = []; }, moveTo: (x, y) => corners.push([x, y]), lineTo: (x, y) => corners.push([x, y]),
+    stroke: (path) => lines.push({ colour: kept.strokeStyle, corners: path ? [] : corners }), measureText: (words) => ({ width: words.length * 6 }),
+  };
+  return new Proxy(kept, { get: (it, name) => (name in it ? it[name] : () => {}) });
+}
+
+const elements = new Map();
+const byId = (id) => elements.get(id) ?? elements.set(id, newElement()).get(id);
+const sandbox = {
+  document: { getElementById: byId, createElement: newElement, addEventListener: () => {} },
+  Path2D: class { moveTo() {} lineTo() {} closePath() {} arc() {} rect() {} },
+};
+const source = SOURCES.map((name) => fs.readFileSync(new URL(name, PAGE), "utf8")).join("");
+const page = vm.runInNewContext(`"use strict";(() => {${source}; return { ${NAMES.join(", ")} }; })()`, sandbox);
 const { readRun, standingAt, waitAt, lifeAt, findEvents, nextMatch, rangeOf, seriesOf, eventAt, eventWords, outcomeWords, waitWords } = page;
+const { view, topOf, drawCurves, drawLanes, sayCounts, sayWaits } = page;
 
 // task 1 maps, and holds the lock of file 0; task 2's truncation waits for it; then a resize, a kill, a refusal and a store of a long word
 const COUNTS = '"free":4,"resv":0,"owed":0';
@@ -83,6 +120,40 @@ expect("a number of 16 digits", eventWords(eventAt(last, 1)), "begin 3 store 0 9
 expect("a denied step", [denied.marks.denied, denied.marks.blocked], [[2], []]);
 expect("a task is dead from its exit's end on", [2, 3, 4].map((at) => lifeAt(exited, at)), ["alive", "dead", "dead"]);
 expect("a wait up to the end", [1, 2, 4].map((at) => waitAt(last, waiting, at)?.holder ?? null), [null, 1, 1]);
+
+// two tasks wait at once, then one of them for another; a touch of index 1 of file 0, and one of index 0 of file 1; a quota of 6
+const MANY = [
+  '{"pool":{"frames":9,"files":2,"slots":4,"tasks":3,"quota":6}}',
+  `{"line":2,"task":1,"event":"begin","op":"map","numbers":[0,0,4],"outcome":"begun","at":"start","owes":0,"free":9,"resv":1,"owed":0,"used":3}`,
+  `{"line":3,"task":2,"event":"step","outcome":"moved","phase":"taken","at":"taken","file":0,"index":1,"free":8,"resv":2,"owed":1,"used":4,"waits":[{"task":2,"for":1,"lock":0},{"task":3,"for":1,"lock":0}]}`,
+  `{"line":4,"task":1,"event":"step","outcome":"moved","phase":"taken","at":"taken","file":1,"index":0,"free":7,"resv":3,"owed":1,"used":5,"waits":[{"task":3,"for":2,"slot":1,"file":1,"index":0}]}`,
+  '{"end":{"calls":1,"free":7}}',
+];
+const many = readRun(MANY.join("\n"));
+const holders = (at) => many.lanes.map((lane) => waitAt(many, lane, at)?.holder ?? null);
+expect("two waits at once", holders(1), [null, 1, 1]);
+expect("a wait for another holder", holders(2), [null, 1, 2]);
+expect("an index, and a file", ["index 1", "file 1", "index 0", "file 0"].map((query) => findEvents(many, query)), [[1], [2], [2], [1]]);
+
+const colours = new Proxy({}, { get: (_, name) => name });
+const room = { run: many, colours, context: newContext(), labels: new Map(), tiles: new Map(), letter: 6, scale: 1, step: 20, left: 0, gutter: 0, picked: 0 };
+Object.assign(view, room, { sight: { from: 0, to: many.count }, width: 800, height: 600, below: 200, curvesTop: 400, pitch: 60, tall: 28 });
+view.scroller = { scrollTop: 0, scrollLeft: 0 };
+drawCurves(view);
+const countOf = (panel, y) => Math.round(((panel.base - y) * panel.most) / panel.height);
+const curves = view.context.lines.filter((it) => it.corners.length > 2);
+const drawn = curves.map(({ colour, corners }, place) => [colour, ...[corners[0], corners.at(-1)].map(([, y]) => countOf(view.panels[place < 3 ? 0 : 1], y))]);
+expect("curves, each with its first count and its last", drawn, [["free", 9, 7], ["resv", 1, 3], ["used", 3, 5], ["resv", 1, 3], ["bare", 1, 2]]);
+view.context = newContext();
+drawLanes(view);
+const ends = view.context.lines.filter((it) => it.colour === "wait" && it.corners.length === 2).map((it) => it.corners[1][1]);
+const below = (row) => topOf(view, row) + view.tall;
+expect("waits lead to their holders", ends, [below(0), below(0), below(1)]);
+sayWaits(2);
+const said = "task 2 waits for 1: lock of file 0, since line 3 task 3 waits for 2: slot 1, file 1 index 0, since line 4";
+expect("each wait is told", byId("waits").textContent.replace(/ +/g, " "), said);
+sayCounts(2);
+expect("counts are told", byId("counts").textContent, "free 7 resv 3 reserved without a page 2 owed 1 used of the quota 5 of 6");
 
 const cut = readRun(LINES.slice(0, 5).join("\n").slice(0, -30));
 expect("data that are cut", [cut.count, cut.end], [3, null]);
