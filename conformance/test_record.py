@@ -183,6 +183,28 @@ NO_RECORDS = [
     (b"script a\npool 4 1 4 1\nrace 1 2 3 = rest\nend\n", "", "no script of it"),
 ]
 
+# scripts of races, each with its kinds and the counts at its end; and what races.py says of them, with its status
+RACED = [
+    ([("mns", "4 0")], 0, "wrong in 0 of 1 scripts without truncations, in 0 of 0 with them\n"),
+    ([("mns", "4 0"), ("mns", "4 1")], 1, "wrong in 1 of 2 scripts without truncations, in 0 of 0 with them\n  file: b: the counts are wrong: "),
+    ([("mns", "3 0")], 1, "wrong in 1 of 1 scripts without truncations"),
+    ([("mst", "4 -1"), ("mns", "4 0"), ("", "4 0")], 0, "wrong in 0 of 1 scripts without truncations, in 1 of 2 with them\n"),
+]
+
+
+def faults_of_races() -> Iterator[tuple[object, object]]:
+    """That a wrong count is told in scripts without truncations, and counted in the others."""
+    with tempfile.TemporaryDirectory(prefix="races-") as name:
+        file = Path(name, "file")
+        for raced, status, said in RACED:
+            scripts = zip("abc", raced)
+            file.write_text("".join(
+                f"script {it}\npool 4 1 4 2\nrace 1 9 4 {kinds} = rest | 4 0 | 0 0 | 0 0\nbegin 1 trunc 0 0 = done | {counts} | 0 0 | 0 0\nend x\n"
+                for it, (kinds, counts) in scripts
+            ).replace("4  =", "4 ="))
+            ended, out, err = outcome("races.py", file)
+            yield raced, (ended, out.startswith(f"file: {said}"), err) == (status, True, "") or (ended, out, err)
+
 
 def faults_of_files() -> Iterator[tuple[object, object]]:
     """That what is no record is told in a line, and so is what can't be read; and that a reader who is gone is no fault."""
@@ -219,7 +241,7 @@ def main() -> int:
         recorder = Recorder(Path(name))
         tried = [("it compiles with no warning", recorder.is_built and not recorder.warnings or recorder.warnings)]
         if recorder.is_built:
-            tried += [*faults_of_reading(recorder), *faults_of_making(recorder), *faults_of_kinds(), *faults_of_files()]
+            tried += [*faults_of_reading(recorder), *faults_of_making(recorder), *faults_of_kinds(), *faults_of_races(), *faults_of_files()]
     wrong = [(what, found) for what, found in tried if found is not True]
     print("".join(f"  {what!r}: {found}\n" for what, found in wrong), end="")
     print(f"recorder: {len(tried) - len(wrong)} passed, {len(wrong)} failed")
