@@ -4,15 +4,16 @@
 usage: test_check.py [--program P | --alone] [--jobs N]
 
 The recordings have to be whole in just the numbers that EXPECTED has. Then wrong machines, and recordings with two events swapped, have
-to be noticed, and none of them once the comparison is switched off: so it is the comparison that notices. The Python machine, by which
-rows are placed, has to answer random traces as the program does, and the traces of examples/ as it stands beside these. Together they reach
-each row that rows.py lists but one, and no other.
+to be noticed, and none of them once the comparison is switched off: so it is the comparison that notices. So have programs that say one
+thing of a recording otherwise. The Python machine, by which rows are placed, has to answer random traces as the program does, and the
+traces of examples/ as it stands beside these. Together they reach each row that rows.py lists but one, and no other.
 """
 from __future__ import annotations
 
 import argparse
 import os
 import random
+import re
 import subprocess
 import sys
 from collections import Counter
@@ -23,6 +24,7 @@ from typing import Callable, Iterable, Iterator, NamedTuple
 import check
 import machine
 import rows
+import verdict
 from events import Attempt
 from placing import Racer
 from recordings import Recording, recordings
@@ -89,6 +91,33 @@ BY_COMPARISON = tuple(map(WRONG.index, (MapLeavesTheSize, NewPageKeepsItsWord, A
 SWAPPED = {"changes and commits of one map": ("change", "commit", "delete"), "takes and accounts": ("take", "account", "free")}
 
 
+class Liar(NamedTuple):
+    """A program that says one thing of a recording otherwise: of which command, what it says in place of what, and what is found of it."""
+
+    command: str
+    has: str
+    says: str
+    found: str
+
+    def lines(self, program: Path, command: str, trace: str) -> list[str]:
+        """What it prints: the last line that has this says something else."""
+        lines = RUN(program, command, trace)
+        if command == self.command:
+            at = max(number for number, line in enumerate(lines) if re.search(self.has, line))
+            lines[at] = re.sub(self.has, self.says, lines[at])
+        return lines
+
+
+# what the right program prints
+RUN = verdict.run
+LIARS = (
+    Liar("replay", r"^ended .*", "ended killed", ": the program 'ended killed', Linux as "),
+    Liar("explain", r"\d+( +\d+ +-?\d+)$", r"77\1", "the program has free 77 "),
+    Liar("explain", r"\d+( +-?\d+)$", r"77\1", r" resv 77, Linux "),
+    Liar("replay", r"^(file \d+ .* pages) \d+", r"\1 77", " pages 77 "),
+)
+
+
 class Blind(Attempt):
     """A comparison that is switched off."""
 
@@ -124,6 +153,18 @@ def replayed(it: Expected, program: Path | None, processes: int) -> Iterator[tup
 
 def are_whole(done: list[check.Checked]) -> int:
     return sum(one.kind is None for one in done)
+
+
+def liars_told(program: Path) -> Iterator[tuple[bool, str]]:
+    """Whether a program that says one thing of a whole recording otherwise is found to differ, and where."""
+    run = next(recordings(file_of("plain")))
+    placement = check.placed(run, check.machine_of(""), True)
+    for it in (None, *LIARS):
+        verdict.run = it.lines if it else RUN
+        says = verdict.judge(placement, run, program)
+        verdict.run = RUN
+        is_so = it.found in says.text and verdict.differs(placement, says) if it else says.is_whole
+        yield is_so, f"a program that says {it.says if it else 'nothing'} otherwise: {says.text or 'it is right'}"
 
 
 def is_noticed(given: tuple[Recording, int, type[Attempt]]) -> bool:
@@ -295,6 +336,8 @@ def results(program: Path | None, processes: int) -> Iterator[tuple[bool, str]]:
         yield from replayed(it, program, processes)
     yield from wrong_machines(processes)
     yield from swaps(runs_of(Base.tried), processes)
+    if program:
+        yield from liars_told(program)
     yield from same_answers(program, 300)
 
 
