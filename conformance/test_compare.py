@@ -7,8 +7,11 @@ in `EXPECTED_OF_QUOTAS` and `EXPECTED_OF_RESIZES`, for those of calls-quota.txt 
 """
 from __future__ import annotations
 
+import contextlib
+import io
 import re
 import sys
+import tempfile
 from pathlib import Path
 from typing import Iterator
 
@@ -37,10 +40,19 @@ def with_other_words(pattern: str, words: str) -> Program:
     return lambda trace: re.sub(pattern, words, "\n".join(compare.replayed(trace))).splitlines()
 
 
+def is_raised(trace: list[str]) -> bool:
+    """Whether a file was truncated to the limit."""
+    return any(re.search(rf" trunc \d+ {LIMIT}$", line) for line in trace)
+
+
 def until_a_size_is_raised(program: Program) -> Program:
     """That program, but the right one once a file was truncated to the limit."""
-    is_raised = lambda trace: any(re.search(rf" trunc \d+ {LIMIT}$", line) for line in trace)
     return lambda trace: (compare.replayed if is_raised(trace) else program)(trace)
+
+
+def once_a_size_is_raised(program: Program) -> Program:
+    """The right program, but that one once a file was truncated to the limit."""
+    return lambda trace: (program if is_raised(trace) else compare.replayed)(trace)
 
 
 def each_resize(frames: str) -> Program:
@@ -59,6 +71,7 @@ cached_beyond = with_other_words(r"locked\nmoved found\nmoved leave\nended .*", 
 found_first = with_other_words(r"locked\nmoved leave\nended beyond\nrefused idle", r"locked\nmoved found\nmoved leave\nended beyond")
 none_found = with_other_words(r"locked\nmoved found", r"locked\nmoved missing")
 none_entered = with_other_words(r"(task .* entries) \d+", r"\1 0")
+one_more_free = with_other_words(r"free (\d+) resv", r"free 1\1 resv")
 
 # what is wrong, the program, the scripts on which it has to differ, and those that end at the known difference
 EXPECTED = [
@@ -68,6 +81,7 @@ EXPECTED = [
     ("a touch looks for the page before it looks at the size", found_first, PAST_THE_END, set()),
     ("a touch finds no page", none_found, PAST_THE_END, set()),
     ("no translation is entered", none_entered, PAST_THE_END | SHARED, set()),
+    ("a touch of a cached page past the end tells another free count", once_a_size_is_raised(one_more_free), PAST_THE_END, set()),
     ("want of frames is told as want of quota", with_other_words(r"ended noframe", "ended noquota"), SHORT, PAST_THE_END),
 ]
 EXPECTED_OF_QUOTAS = [
@@ -101,8 +115,23 @@ def endings(program: Program, file: Path) -> tuple[set[str], set[str]]:
 EXPECTATIONS = ((SCRIPTS, EXPECTED), (SCRIPTS_OF_QUOTAS, EXPECTED_OF_QUOTAS), (SCRIPTS_OF_RESIZES, EXPECTED_OF_RESIZES))
 
 
+# what a kernel may say of a load that finds no mapping, and the status that this brings
+STATUSES = {"segv": 0, "done": 1}
+
+
+def status_of(answer: str) -> int:
+    """With which status a file is compared in which a kernel answers a load so."""
+    with tempfile.TemporaryDirectory(prefix="compare-") as name, contextlib.redirect_stdout(io.StringIO()):
+        file = Path(name, "file")
+        file.write_text(f"script a\npool 1 1 1 1\nbegin 1 load 0 = {answer} | 1 0 | 0 0 | 0\nend\n", encoding="utf-8")
+        return compare.main([file])
+
+
 def faults() -> Iterator[str]:
     """What the comparison doesn't tell, or tells where nothing is."""
+    for answer, status in STATUSES.items():
+        if (found := status_of(answer)) != status:
+            yield f"where a kernel answers {answer} the status is {found}"
     for (task, page), place in PLACES.items():
         if (found := compare.place_of(CALLS, task, page)) != place:
             yield f"page {page} of task {task} is reckoned to show {found}, and shows {place}"
@@ -122,7 +151,7 @@ def main() -> int:
     compare.tested()
     found = list(faults())
     print("".join(f"  {it}\n" for it in found), end="")
-    tried = len(PLACES) + len(compare.RECORDED) + sum(len(expected) for _, expected in EXPECTATIONS)
+    tried = len(STATUSES) + len(PLACES) + len(compare.RECORDED) + sum(len(expected) for _, expected in EXPECTATIONS)
     print(f"wrong programs told: {tried - len(found)} passed, {len(found)} failed")
     return 1 if found else 0
 
