@@ -4,10 +4,10 @@
 usage: library/check.py [--events N]
 
 It builds the proved archive, a heap over malloc and the programs of library/examples and library/tests. Then, on the traces of examples/:
-outcomes, with a branch at each moment at rest, and texts are those beside the trace, to the byte; and of each trace that isn't long each
-growth of memory is refused once, and pools that run it go from thread to thread. Then calls that name nothing, closed pools, rooms that
-are too small, and N events of random numbers (200,000; a long try is 10,000,000); and that the library has no variables, which threads
-would share.
+outcomes, with a branch at each moment at rest, and texts are those beside the trace, to the byte, and pictures those of docs/pictures; and
+of each trace that isn't long each growth of memory is refused once, and pools that run it go from thread to thread. Then calls that name
+nothing, closed pools, the largest pool, rooms that are too small, and N events of random numbers (200,000; a long try is 10,000,000); and
+that the library has no variables, which threads would share.
 
 At last the crates for Rust, where there is cargo, each way that they find the library; the Python module, where there is pytest; a wheel
 in an environment of its own, where there are setuptools; and the programs of docs/LIBRARY.md.
@@ -195,7 +195,8 @@ def try_trace(room: Path, trace: Path) -> Iterator[tuple[str, bool, str]]:
         wanted = trace.with_suffix(".err").read_bytes().splitlines()[-1]
         yield "a fault and its reason", code == 1 and not told and wanted in complaint, complaint.decode()
         return
-    for word, beside in ("replay", out), ("explain", explained):
+    drawn = TOP / "docs" / "pictures" / f"{trace.stem}.svg"
+    for word, beside in ("replay", out), ("explain", explained), ("draw", drawn):
         if beside.exists():
             code, told, complaint = run(room / "texts", word, trace)
             yield word, code == 0 and told == beside.read_bytes(), complaint.decode()

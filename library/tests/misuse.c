@@ -1,5 +1,5 @@
-/* Calls that name nothing, closed pools, rooms that are too small, and events of random numbers: each is answered, nothing that should stay
- * changes, and an audit finds nothing. Prints what was tried.
+/* Calls that name nothing, closed pools, the largest pool, rooms that are too small, and events of random numbers: each is answered, nothing
+ * that should stay changes, and an audit finds nothing. Prints what was tried.
  *
  *   misuse EVENTS SEED
  */
@@ -75,6 +75,18 @@ static void no_such(void)
     none.op = 10;
     assert(hugepool_event(&pool, &none, &outcome) == HUGEPOOL_NO_SUCH);
     hugepool_close(&pool);
+}
+
+/* The largest pool is opened, and so is a copy of it. */
+static void largest(void)
+{
+    hugepool_pool pool = HUGEPOOL_CLOSED, copy = HUGEPOOL_CLOSED;
+    hugepool_config_words config = { 4096, 16, 64, 64, 65536, true };
+    hugepool_pool_words numbers;
+    assert(hugepool_open(&pool, &config) == HUGEPOOL_OK && hugepool_copy(&pool, &copy) == HUGEPOOL_OK);
+    assert(hugepool_pool_numbers(&copy, &numbers) == HUGEPOOL_OK && numbers.free == 4096 && numbers.files == 16 && numbers.tasks == 64);
+    hugepool_close(&pool);
+    hugepool_close(&copy);
 }
 
 /* A slice stops where an event can't happen, and where its room ends. */
@@ -237,6 +249,7 @@ int main(int count, char **words)
     seed = strtoull(words[2], NULL, 10) * 2654435761u + 1;
     closed_pools();
     no_such();
+    largest();
     slices();
     texts();
     lines();

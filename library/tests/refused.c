@@ -94,7 +94,7 @@ static void make(hugepool_pool *pool, const hugepool_event_words *event, hugepoo
     assert(hugepool_event(pool, event, outcome) == HUGEPOOL_OK);
 }
 
-/* A copy at the end, where no call is in flight; it tells what the pool does. */
+/* A copy at the end, where no call is in flight; it tells what the pool does. A second one takes its place, and it is closed. */
 static void copy(hugepool_pool *pool)
 {
     static told all, copied;
@@ -105,8 +105,11 @@ static void copy(hugepool_pool *pool)
         code = hugepool_copy(pool, &other);
     }
     assert(code == HUGEPOOL_OK || code == HUGEPOOL_IN_FLIGHT);
-    if (code == HUGEPOOL_OK)
+    if (code == HUGEPOOL_OK) {
         assert(memcmp(tell(pool, &all), tell(&other, &copied), sizeof all) == 0);
+        code = hugepool_copy(pool, &other);
+        assert(other.is_open && (code == HUGEPOOL_OK || code == HUGEPOOL_NO_MEMORY));
+    }
     hugepool_close(&other);
 }
 
