@@ -115,18 +115,21 @@ const LAST = [
   `{"line":6,"task":3,"event":"step","outcome":"moved","phase":"take","at":"take","holds":{},"wants":{},"owes":0,${COUNTS}}`,
 ];
 const last = readRun(LAST.join("\n"));
-const [exited, waiting, denied] = last.lanes;
+const [exited, waiter, denied] = last.lanes;
 expect("a number of 16 digits", eventWords(eventAt(last, 1)), "begin 3 store 0 9007199254740993");
 expect("a denied step", [denied.marks.denied, denied.marks.blocked], [[2], []]);
 expect("a task is dead from its exit's end on", [2, 3, 4].map((at) => lifeAt(exited, at)), ["alive", "dead", "dead"]);
-expect("a wait up to the end", [1, 2, 4].map((at) => waitAt(last, waiting, at)?.holder ?? null), [null, 1, 1]);
+expect("a wait up to the end", [1, 2, 4].map((at) => waitAt(last, waiter, at)?.holder ?? null), [null, 1, 1]);
 
 // two tasks wait at once, then one of them for another; a touch of index 1 of file 0, and one of index 0 of file 1; a quota of 6
+const counts = (free, resv, owed, used) => `"free":${free},"resv":${resv},"owed":${owed},"used":${used}`;
+const waiting = (task, holder) => `{"task":${task},"for":${holder},"lock":0}`;
+const moved = (line, task, file, index) => `"line":${line},"task":${task},"event":"step","outcome":"moved","phase":"taken","file":${file},"index":${index}`;
 const MANY = [
   '{"pool":{"frames":9,"files":2,"slots":4,"tasks":3,"quota":6}}',
-  `{"line":2,"task":1,"event":"begin","op":"map","numbers":[0,0,4],"outcome":"begun","at":"start","owes":0,"free":9,"resv":1,"owed":0,"used":3}`,
-  `{"line":3,"task":2,"event":"step","outcome":"moved","phase":"taken","at":"taken","file":0,"index":1,"free":8,"resv":2,"owed":1,"used":4,"waits":[{"task":2,"for":1,"lock":0},{"task":3,"for":1,"lock":0}]}`,
-  `{"line":4,"task":1,"event":"step","outcome":"moved","phase":"taken","at":"taken","file":1,"index":0,"free":7,"resv":3,"owed":1,"used":5,"waits":[{"task":3,"for":2,"slot":1,"file":1,"index":0}]}`,
+  `{"line":2,"task":1,"event":"begin","op":"map","numbers":[0,0,4],"outcome":"begun","at":"start",${counts(9, 1, 0, 3)}}`,
+  `{${moved(3, 2, 0, 1)},${counts(8, 2, 1, 4)},"waits":[${waiting(2, 1)},${waiting(3, 1)}]}`,
+  `{${moved(4, 1, 1, 0)},${counts(7, 3, 1, 5)},"waits":[{"task":3,"for":2,"slot":1,"file":1,"index":0}]}`,
   '{"end":{"calls":1,"free":7}}',
 ];
 const many = readRun(MANY.join("\n"));
