@@ -255,6 +255,8 @@ def tries(program: Path) -> Iterator[tuple[str, bool]]:
         yield "of fewer tasks they may be longer", writes("explore --runs 2385", EMPTY + CALLS) == [16, 64, 256, 1024, 1025]
         yield "65,536 runs may be asked for", output("explore --runs 65536", EMPTY).count("\n") == 65_536
         yield "and as many races", output("race --times 65536", EMPTY).count("\n") == 65_536
+        searched = (1, "", "hugepool: no run meets all conditions (runs explored: 65537)\n")
+        yield "a search makes more of them", run(tested(), "find --limit 65537 --blocked 1", EMPTY) == searched
     else:
         print("left out: long runs, 65,536 runs and races: they need the proved program")
     yield "by ./hugepool help has its name, too", run(TOP / "hugepool", "race --help").out == output("race --help", "")
