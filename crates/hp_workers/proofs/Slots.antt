@@ -1,5 +1,5 @@
 -- Slots that are filled, and emptied again.
-use Rattle.std.specs.Prelude.{IfSome, slice_index_or}
+use Rattle.std.specs.Prelude.{IfSome, OnOk, Result, Ok, Err, slice_index_or}
 use Rattle.std.proofs.Common.{◌≡◌, ℕ, zero, suc, ◌<◌, ◌++◌, [], ◌∷◌, List, Option, None, All, length, get_or, set, refl, inl, inr, ap}
 use Rattle.std.proofs.Common.{sym, subst, ◌∙◌, arith, replicate}
 use Rattle.std.proofs.lemmas.Bool.{cases_eq}
@@ -58,3 +58,8 @@ pub slot_left : {M : Type 0} (right : ℕ → M → Type 0) (slots : List (Optio
     → at < length slots → left ≡ None → AreOwn right (set slots at left)
 slot_left {M} right slots at left own there empty =
     slot_set right slots at left own there (subst (λ (s : Option M). IfSome s (right at)) (sym empty) tt)
+
+-- what holds anyway holds where an answer is good
+pub ok_or_not : {A E : Type 0} (r : Result A E) (P : Type 0) → P → OnOk r P
+ok_or_not (Ok a) P h = h
+ok_or_not (Err e) P h = tt

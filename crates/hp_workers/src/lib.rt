@@ -4,10 +4,12 @@
 //! where all is wanted, all is there, in order. It must not know what is made. No clause tells who makes what, or when.
 #![tactic(auto)]
 
+mod ahead;
 mod claims;
 mod progress;
 mod work;
 
+pub use ahead::next_made;
 pub use claims::{all_made, found_or_made, side_by_side};
 pub use progress::{FIRST_PART, Progress, next_part};
 pub use work::Work;

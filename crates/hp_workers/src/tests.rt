@@ -1,6 +1,7 @@
 //! Squares of numbers.
 ghost use Rattle.std.specs.Prelude.{◌≡◌, ◌*◌, ◌^◌, ◌<◌};
 
+use crate::ahead::next_made;
 use crate::claims::{all_made, found_or_made, side_by_side};
 use crate::progress::next_part;
 use crate::work::Work;
@@ -55,4 +56,16 @@ fn parts_grow(rt: HostRuntime) {
     assert_eq!(rt; next_part(64, 2048, 4, 3_999_999), 256);
     assert_eq!(rt; next_part(1024, 2048, 4, 3_999_999), 2048);
     assert_eq!(rt; next_part(64, 2048, 4, 4_000_000), 64);
+}
+
+// At the first place as many workers as there are make what they can; the second is asked for afterwards.
+#[test]
+fn places_are_made_ahead(rt: HostRuntime) -> Result<(), Fail> {
+    let squares = Squares { large: 1_000_000 };
+    let mut slots = Vec::new(rt.alloc());
+    let first = next_made(&rt, rt.alloc(), &squares, 100, &mut slots, 0)?;
+    let second = next_made(&rt, rt.alloc(), &squares, 100, &mut slots, 1)?;
+    assert_eq!(rt; (first, second), (0, 1));
+    assert_eq!(rt; slots.len(), 100);
+    Ok(())
 }
