@@ -35,26 +35,27 @@ fn no_event(kind: u32, task: u32) -> EventWords
     }
 }
 
+/// A call over indices of a file, in numbers.
+fn range_words(begin: EventWords, op: u32, file: File, from: Index, len: u32) -> EventWords
+    ensures { result ≡ record begin { op = op; file = file; from = from; len = len } }
+{
+    EventWords {
+        op,
+        file: file.number(),
+        from: from.number(),
+        len,
+        ..begin
+    }
+}
+
 /// The call that a task begins, in numbers.
 fn op_words(task: Task, op: Op) -> EventWords
     ensures { result ≡ op_words task op }
 {
     let begin = no_event(0, task.number());
     match op {
-        Op::Map { file, from, len } => EventWords {
-            op: 0,
-            file: file.number(),
-            from: from.number(),
-            len,
-            ..begin
-        },
-        Op::MapNoReserve { file, from, len } => EventWords {
-            op: 1,
-            file: file.number(),
-            from: from.number(),
-            len,
-            ..begin
-        },
+        Op::Map { file, from, len } => range_words(begin, 0, file, from, len),
+        Op::MapNoReserve { file, from, len } => range_words(begin, 1, file, from, len),
         Op::Unmap { base } => EventWords {
             op: 2,
             page: base.number(),
@@ -76,20 +77,8 @@ fn op_words(task: Task, op: Op) -> EventWords
             from,
             len,
             keep,
-        } => EventWords {
-            op: if keep { 6 } else { 5 },
-            file: file.number(),
-            from: from.number(),
-            len,
-            ..begin
-        },
-        Op::Punch { file, from, len } => EventWords {
-            op: 7,
-            file: file.number(),
-            from: from.number(),
-            len,
-            ..begin
-        },
+        } => range_words(begin, if keep { 6 } else { 5 }, file, from, len),
+        Op::Punch { file, from, len } => range_words(begin, 7, file, from, len),
         Op::Truncate { file, new } => EventWords {
             op: 8,
             file: file.number(),
