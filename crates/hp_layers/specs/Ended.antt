@@ -1,5 +1,5 @@
 -- The endings of runs.
-use Rattle.std.specs.Prelude.{◌≡◌, ◌<◌, ◌⊎◌, ℕ, Bool, true, false, List, Contains, Option, Some, is_some}
+use Rattle.std.specs.Prelude.{◌≡◌, ◌<◌, ◌≤◌, ◌⊎◌, ℕ, Bool, true, false, List, Contains, Option, Some, is_some}
 use Rattle.hp_layers.specs.declared.ending.EndingTable.{EndingTable}
 use Rattle.hp_layers.specs.declared.ending.EndingTable.TheVariants.{Whole, Cut}
 use Rattle.hp_layers.specs.declared.limits.Limits.{Limits}
@@ -51,10 +51,11 @@ AreRight turn ending first (Whole counts) =
 AreRight turn ending first (Cut counts turns) =
     ((n : ℕ) → n < turns → HasEndings turn ending first counts.states.items n) × AreShortest turn ending first counts.states.items
 
--- endings are cut where so many turns are made as the limit, or where there are too many states
+-- Endings are cut where so many turns are made as the limit, or where there are too many states. Where they are whole, nothing is reached in
+-- as many turns.
 unfoldable pub AreCutAtLimits : {S K : Type 0} → (eq : K → K → Bool) → (key_of : S → K) → (turn : S → S → Type 0) → (first : S) → Limits
     → EndingTable S → Type 0
-AreCutAtLimits eq key_of turn first limits (Whole counts) = Unit {0}
+AreCutAtLimits {S} eq key_of turn first limits (Whole counts) = (n : ℕ) (s : S) → limits.turns ≤ n → IsReached turn first n s → ⊥
 AreCutAtLimits eq key_of turn first limits (Cut counts turns) =
     (turns ≡ limits.turns) ⊎ IsCrowded eq key_of turn first limits.states turns
 

@@ -73,6 +73,10 @@ pub record IsLayer {S : Type 0} (turn alike : S → S → Type 0) (first : S) (t
   pub reached : (t : S) → Contains layer t → IsReached turn first turns t
   pub covers : (s : S) → IsReached turn first turns s → IsCovered alike layer s
 
+-- it holds of what stands at that place, whatever is read where nothing does
+abbrev pub HoldsAt : {S : Type 0} → (P : S → Type 0) → List S → (place : ℕ) → Type 0
+HoldsAt {S} P states place = (d : S) → P (slice_index_or states place d)
+
 -- the state at that place meets it
 pub record MeetsAt {S : Type 0} (meets : S → Type 0) (states : List S) (place : ℕ) : Type 0 where
   pub there : place < length states

@@ -6,9 +6,12 @@ ghost use Rattle.hp_layers.specs.Named.{AddsEach, AddsWays, GoOn, IsIndexed, Kee
 ghost use Rattle.hp_layers.specs.Weighed.{AreWithin};
 
 use crate::ending::Ends;
+use crate::parts::{EachAfter, part_len, part_of};
+use hp_workers::next_made;
 use std::alloc::{AllocError, Global};
 use std::collections::HashMap;
 use std::hash::Hash;
+use std::thread::Threads;
 
 /// States, and for each in how many ways runs lead there. The largest number counts as that many or more.
 #[derive(Debug, Drop)]
@@ -74,7 +77,8 @@ fn add_each<M: Ends>(
 }
 
 /// The states behind a layer, with their ways, unless there are more than there is room for.
-pub(crate) fn next_counts<M: Ends>(
+pub(crate) fn next_counts<M: Ends + Sync>(
+    rt: &(impl Threads + Sync),
     alloc: Global,
     system: &M,
     layer: &RunCounts<M::State>,
@@ -96,8 +100,18 @@ pub(crate) fn next_counts<M: Ends>(
         states: Vec::new(alloc),
         ways: Vec::new(alloc),
     };
+    let mut begin = 0;
+    let mut ahead = Vec::new(alloc);
     for place in 0..layer.states.len() {
-        let after = system.each_after(alloc, &layer.states[place])?;
+        begin = part_of(begin, place);
+        let part = EachAfter {
+            system,
+            layer: &layer.states,
+            begin,
+        };
+        let states = part_len(begin, layer.states.len());
+        let at = (place - begin) as u32;
+        let after = next_made(rt, alloc, &part, states, &mut ahead, at)?;
         let more = layer.ways[place];
         add_each(alloc, system, &mut places, &mut next, after, more)?;
         if next.states.len() > room {

@@ -11,11 +11,12 @@ use crate::turns::Turns;
 use std::alloc::{AllocError, Global};
 use std::collections::HashMap;
 use std::hash::Hash;
+use std::thread::Threads;
 
 /// A system whose runs end in some way, and are counted.
 pub trait Ends: Turns {
     /// How a run ends.
-    type Ending: Eq + Hash + Drop;
+    type Ending: Eq + Hash + Drop + Send + Sync;
 
     /// What tells the turns from a state apart.
     type Name;
@@ -117,7 +118,8 @@ fn no_counts<S: Drop>(alloc: Global) -> RunCounts<S>
 }
 
 /// The endings of all runs, in the order of their turns, up to the limits.
-pub fn endings<M: Ends>(
+pub fn endings<M: Ends + Sync>(
+    rt: &(impl Threads + Sync),
     alloc: Global,
     system: &M,
     first: M::State,
@@ -141,7 +143,7 @@ pub fn endings<M: Ends>(
         }
         progress.layer(turns, layer.states.len());
         let room = limits.states.saturating_sub(layer.states.len());
-        let next = next_counts(alloc, system, &layer, room)?;
+        let next = next_counts(rt, alloc, system, &layer, room)?;
         take_counts(alloc, system, &mut places, &mut counts, layer)?;
         let Some(next) = next else {
             let turns = turns + 1;

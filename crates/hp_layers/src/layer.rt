@@ -4,9 +4,12 @@ ghost use Rattle.std.specs.HashSet.{contains};
 ghost use Rattle.hp_layers.specs.Layers.{AddsAll, AddsSome, AreCounted, AreKeysOf, AreNext, AreValid, IsCovered, KeysStand, LacksRoom};
 ghost use Rattle.hp_layers.specs.Layers.{MeetsAt, NoneIsMet};
 
+use crate::parts::{After, part_len, part_of};
 use crate::turns::Turns;
+use hp_workers::next_made;
 use std::alloc::{AllocError, Global};
 use std::collections::HashSet;
+use std::thread::Threads;
 
 /// Adds the state to those that come next, unless one with its key is among them.
 fn add<M: Turns>(
@@ -58,7 +61,8 @@ fn add_all<M: Turns>(
 }
 
 /// The layer behind this one, unless it has more states than there is room for.
-pub(crate) fn next_layer<M: Turns>(
+pub(crate) fn next_layer<M: Turns + Sync>(
+    rt: &(impl Threads + Sync),
     alloc: Global,
     system: &M,
     layer: &[M::State],
@@ -72,8 +76,18 @@ pub(crate) fn next_layer<M: Turns>(
 {
     let mut seen = HashSet::new(alloc);
     let mut next = Vec::new(alloc);
-    for state in layer {
-        let after = system.after(alloc, state)?;
+    let mut begin = 0;
+    let mut ahead = Vec::new(alloc);
+    for place in 0..layer.len() {
+        begin = part_of(begin, place);
+        let part = After {
+            system,
+            layer,
+            begin,
+        };
+        let states = part_len(begin, layer.len());
+        let at = (place - begin) as u32;
+        let after = next_made(rt, alloc, &part, states, &mut ahead, at)?;
         add_all(alloc, system, &mut seen, &mut next, after)?;
         if next.len() > room {
             return Ok(None);

@@ -1,6 +1,6 @@
 //! Every state that a system can reach, layer by layer.
 //!
-//! It stands on no other crate of ours, and knows of a system only what its `Turns` say. Layer n has states that are reached in exactly n
+//! It stands on hp_workers alone, and knows of a system only what its `Turns` say. Layer n has states that are reached in exactly n
 //! turns, and for each state that is so reached one that is as good: what comes after the one comes after the other, and equal keys make
 //! two states as good as each other. So what no layer has is never met, and what a layer has first is met by no shorter run. It keeps two
 //! layers at a time, and ends where one is empty, or where its limits run out.
@@ -10,6 +10,7 @@ mod counting;
 mod ending;
 mod layer;
 mod limits;
+mod parts;
 mod progress;
 mod searching;
 mod turns;

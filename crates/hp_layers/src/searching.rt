@@ -8,9 +8,11 @@ use crate::progress::Progress;
 use crate::turns::Turns;
 use crate::verdict::Verdict;
 use std::alloc::{AllocError, Global};
+use std::thread::Threads;
 
 /// Looks for a state that meets what is looked for, in layers of more and more turns, up to the limits.
-pub fn search<M: Turns>(
+pub fn search<M: Turns + Sync>(
+    rt: &(impl Threads + Sync),
     alloc: Global,
     system: &M,
     first: M::State,
@@ -34,7 +36,7 @@ pub fn search<M: Turns>(
             return Ok(Verdict::Met { state, turns });
         }
         let room = limits.states.saturating_sub(layer.len());
-        let Some(next) = next_layer(alloc, system, &layer, room)? else {
+        let Some(next) = next_layer(rt, alloc, system, &layer, room)? else {
             return Ok(Verdict::Cut { turns: turns + 1 });
         };
         layer = next;

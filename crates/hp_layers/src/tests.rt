@@ -10,6 +10,7 @@ use crate::searching::search;
 use crate::turns::Turns;
 use crate::verdict::Verdict;
 use std::alloc::{AllocError, Global};
+use std::thread::Threads;
 
 /// Where the counter is to stand.
 #[derive(Drop)]
@@ -104,9 +105,14 @@ impl Progress for Told {
 }
 
 /// What a search says of a count: where it stands then, or how far it came, or that it never does.
-fn found(alloc: Global, count: u32, limits: Limits) -> Result<(u32, u32), AllocError> {
+fn found(
+    rt: &(impl Threads + Sync),
+    alloc: Global,
+    count: u32,
+    limits: Limits,
+) -> Result<(u32, u32), AllocError> {
     let mut told = Told { layers: 0, last: 0 };
-    match search(alloc, &Wanted { count }, 0, limits, &mut told)? {
+    match search(rt, alloc, &Wanted { count }, 0, limits, &mut told)? {
         Verdict::Met { state, turns } => Ok((state, turns)),
         Verdict::Never => Ok((100, told.layers)),
         Verdict::Cut { turns } => Ok((200, turns)),
@@ -119,9 +125,9 @@ fn counts(rt: HostRuntime) {
         turns: 9,
         states: 9,
     };
-    let met = found(rt.alloc(), 2, wide);
+    let met = found(&rt, rt.alloc(), 2, wide);
     assert!(rt; matches!(met, Ok((2, 2))));
-    let never = found(rt.alloc(), 4, wide);
+    let never = found(&rt, rt.alloc(), 4, wide);
     assert!(rt; matches!(never, Ok((100, 4))));
 }
 
@@ -131,20 +137,24 @@ fn limits_run_out(rt: HostRuntime) {
         turns: 2,
         states: 9,
     };
-    let cut = found(rt.alloc(), 3, few_turns);
+    let cut = found(&rt, rt.alloc(), 3, few_turns);
     assert!(rt; matches!(cut, Ok((200, 2))));
     let few_states = Limits {
         turns: 9,
         states: 1,
     };
-    let narrow = found(rt.alloc(), 3, few_states);
+    let narrow = found(&rt, rt.alloc(), 3, few_states);
     assert!(rt; matches!(narrow, Ok((200, 1))));
 }
 
 /// The only ending that there is, and in how many ways the counter comes there, if the table is whole and has one.
-fn only_ending(alloc: Global, limits: Limits) -> Result<Option<(u32, u128)>, AllocError> {
+fn only_ending(
+    rt: &(impl Threads + Sync),
+    alloc: Global,
+    limits: Limits,
+) -> Result<Option<(u32, u128)>, AllocError> {
     let mut told = Told { layers: 0, last: 0 };
-    match endings(alloc, &Wanted { count: 2 }, 0, limits, &mut told)? {
+    match endings(rt, alloc, &Wanted { count: 2 }, 0, limits, &mut told)? {
         EndingTable::Whole(counts) => Ok(if counts.states.len() == 1 && counts.ways.len() == 1 {
             Some((counts.states[0], counts.ways[0]))
         } else {
@@ -160,12 +170,12 @@ fn ends(rt: HostRuntime) {
         turns: 9,
         states: 9,
     };
-    let ended = only_ending(rt.alloc(), wide);
+    let ended = only_ending(&rt, rt.alloc(), wide);
     assert!(rt; matches!(ended, Ok(Some((3, 8)))));
     let few_turns = Limits {
         turns: 2,
         states: 9,
     };
-    let cut = only_ending(rt.alloc(), few_turns);
+    let cut = only_ending(&rt, rt.alloc(), few_turns);
     assert!(rt; matches!(cut, Ok(None)));
 }

@@ -7,10 +7,10 @@ use std::hash::Hash;
 
 /// A system whose runs are explored.
 pub trait Turns {
-    type State: Drop;
+    type State: Drop + Send + Sync;
 
     /// What tells states apart: where two have equal keys, either is kept.
-    type Key: Eq + Hash + Drop;
+    type Key: Eq + Hash + Drop + Send + Sync;
 
     // a state of this system: what it keeps of itself, as its path, is right
     ghost valid: { Self → Self.State → Type 0 };

@@ -1,3 +1,4 @@
+pub mod Bounded
 pub mod Closed
 pub mod Kept
 pub mod Listed

@@ -1,5 +1,7 @@
 -- What a table of all endings says.
-use Rattle.std.specs.Prelude.{◌≡◌, ◌<◌, ◌≤◌, ℕ, List, All, Contains, length, slice_index_or}
+use Rattle.std.specs.Cmp.Lexicographic.{pointwise}
+use Rattle.std.specs.List.{IsDistinct}
+use Rattle.std.specs.Prelude.{◌≡◌, ◌+◌, ◌<◌, ◌≤◌, ◌⊎◌, ℕ, List, All, Contains, length, nat_eq, slice_index_or}
 use Rattle.hp_base.specs.declared.event.Event.{Event}
 use Rattle.hp_watch.specs.Moments.{Moment, events_of}
 use Rattle.hp_layers.specs.Named.{AreApart}
@@ -8,6 +10,7 @@ use Rattle.hp_every.specs.declared.turn.Turn.{Turn}
 use Rattle.hp_every.specs.Endings.{EndState, Ended, EndsSo, HasEnding, IsEndState, ended_at}
 use Rattle.hp_every.specs.Search.{HasTurns, Question}
 use Rattle.hp_layers.specs.declared.counting.RunCounts.{RunCounts}
+use Rattle.hp_layers.specs.declared.limits.Limits.{Limits}
 use Rattle.hp_search.specs.declared.endings.EndingRow.{EndingRow}
 use Rattle.hp_search.specs.declared.endings.EndingRows.{EndingRows}
 use Rattle.hp_search.specs.declared.endings.EndingRows.TheVariants.{Whole, Cut}
@@ -61,6 +64,33 @@ pub record AreAllRows (a : Question) (rows : List EndingRow) : Type 0 where
       → (k : ℕ) × (k < length rows) × ((d : EndingRow) → ended_of (slice_index_or rows k d) ≡ e)
   pub one : (j k : ℕ) (d : EndingRow) → j < length rows → k < length rows
       → ended_of (slice_index_or rows j d) ≡ ended_of (slice_index_or rows k d) → j ≡ k
+
+-- the key is that of a schedule of so many turns: of its place, and of its answers
+pub record IsEndKeyOf (a : Question) (turns : ℕ) (key : List ℕ) : Type 0 where
+  pub state : EndState
+  pub right : IsEndState a state
+  pub long : length state.path.turns ≡ turns
+  pub is : key ≡ state.key
+
+-- no two of these keys are equal, and each is one of so many turns
+pub record AreEndKeysOf (a : Question) (turns : ℕ) (keys : List (List ℕ)) : Type 0 where
+  pub distinct : IsDistinct (pointwise nat_eq) keys
+  pub each : (key : List ℕ) → Contains keys key → IsEndKeyOf a turns key
+
+-- schedules of so many turns, and of one turn fewer, have more such keys than the limit
+pub record AreTooMany (a : Question) (limit turns : ℕ) : Type 0 where
+  pub before : ℕ
+  pub next : turns ≡ before + 1
+  pub some : List (List ℕ)
+  pub others : List (List ℕ)
+  pub here : AreEndKeysOf a before some
+  pub behind : AreEndKeysOf a turns others
+  pub many : limit < length some + length others
+
+-- Each row has fewer events than the limit of turns. A table is cut at that limit, or where there are too many places and answers.
+unfoldable pub AreWithin : Question → Limits → EndingRows → Type 0
+AreWithin a limits (Whole rows) = All (λ row. length row.events.items < limits.turns) rows.items
+AreWithin a limits (Cut turns) = (turns ≡ limits.turns) ⊎ AreTooMany a limits.states turns
 
 -- a table has all endings; or the limits ran out
 unfoldable pub AreAllEndings : Question → EndingRows → Type 0

@@ -6,7 +6,7 @@ ghost use Rattle.hp_layers.specs.Named.{AreEach};
 ghost use Rattle.hp_every.proofs.Endings.{as_good_ends, ends_alike, ends_by_key, named_ends};
 ghost use Rattle.hp_every.specs.Endings.{AreEndsAlike, GoesBy, GoesOnBy, IsEndState};
 ghost use Rattle.hp_every.specs.Search.{HasTurns};
-ghost use Rattle.hp_search.specs.Endings.{AreAllEndings, AreRowsOf, AreStates, IsRowAt};
+ghost use Rattle.hp_search.specs.Endings.{AreAllEndings, AreRowsOf, AreStates, AreWithin, IsRowAt};
 ghost use Rattle.hp_search.specs.Searching.{IsQuery, question, question_of};
 
 use crate::closing::{EndPath, end_path_at, end_paths_behind};
@@ -22,6 +22,7 @@ use hp_explore::{Chances, Plan};
 use hp_layers::{EndingTable, Ends, Limits, Progress, RunCounts, Turns, endings};
 use hp_text::Script;
 use std::alloc::{AllocError, Global};
+use std::thread::Threads;
 
 /// Schedules that are told apart by their answers, too.
 #[derive(Clone, Copy, Drop)]
@@ -157,13 +158,16 @@ fn rows_of(
 /// place with the same answers are looked at once, however many they are. It takes time and memory for as many places as there are, up to
 /// the limits.
 pub fn explore_every(
+    rt: &(impl Threads + Sync),
     alloc: Global,
     script: &Script,
     budget: Budget,
     limits: Limits,
     progress: &mut impl Progress,
 ) -> Result<EndingRows, AllocError>
-    ensures { IfOk result (AreAllEndings (question script.now budget [])) }
+    ensures endings { IfOk result (AreAllEndings (question script.now budget [])) }
+    // It doesn't give up before.
+    ensures within { IfOk result (AreWithin (question script.now budget []) limits) }
 {
     let plan = &Plan::new(alloc, script, Chances { deny: 0, kill: 0 })?;
     let query = Query {
@@ -175,7 +179,7 @@ pub fn explore_every(
     };
     let position = Position::first(alloc, query)?;
     let first = end_path_at(alloc, query, Vec::new(alloc), &position)?;
-    match endings(alloc, &EndQuery { query }, first, limits, progress)? {
+    match endings(rt, alloc, &EndQuery { query }, first, limits, progress)? {
         EndingTable::Whole(counts) => Ok(EndingRows::Whole(rows_of(alloc, query, &counts)?)),
         EndingTable::Cut { turns, .. } => Ok(EndingRows::Cut { turns }),
     }

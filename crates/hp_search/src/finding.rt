@@ -18,6 +18,7 @@ use hp_hunt::Condition;
 use hp_layers::{Limits, Progress, Turns, Verdict, search};
 use hp_text::{Script, Trace};
 use std::alloc::{AllocError, Global};
+use std::thread::Threads;
 
 impl Turns for Query<'_> {
     type State = Path;
@@ -68,6 +69,7 @@ pub struct Budget {
 /// The shortest schedule of the script that meets all conditions, or that none does. Each place that schedules reach in so many turns is
 /// looked at once. It takes time and memory for as many as there are, up to the limits.
 pub fn find_every(
+    rt: &(impl Threads + Sync),
     alloc: Global,
     script: &Script,
     budget: Budget,
@@ -88,7 +90,7 @@ pub fn find_every(
     };
     let position = Position::first(alloc, query)?;
     let first = path_at(alloc, query, Vec::new(alloc), &position)?;
-    let verdict = search(alloc, &query, first, limits, progress)?;
+    let verdict = search(rt, alloc, &query, first, limits, progress)?;
     match verdict {
         Verdict::Never => Ok(Reachability::Never),
         Verdict::Cut { turns } => Ok(Reachability::Cut { turns }),

@@ -7,6 +7,7 @@ use hp_layers::{Limits, Progress};
 use hp_text::{ReplayFault, read_any_script};
 use std::alloc::Global;
 use std::test::Fail;
+use std::thread::Threads;
 
 const MAPS: &str = "pool 1 1 4 2\nbegin 1 map 0 0 1\nbegin 2 map 0 1 1\n";
 
@@ -44,6 +45,7 @@ fn both(one: AnswerWord, other: AnswerWord) -> [Condition; 2] {
 
 /// What is said of all schedules: the number of events of a shortest; 1000 if there is none; 2000 if there are too many states.
 fn said(
+    rt: &(impl Threads + Sync),
     alloc: Global,
     conditions: &[Condition],
     budget: Budget,
@@ -55,7 +57,7 @@ fn said(
         states,
     };
     let mut told = Told { layers: 0 };
-    match find_every(alloc, &script, budget, conditions, limits, &mut told)? {
+    match find_every(rt, alloc, &script, budget, conditions, limits, &mut told)? {
         Reachability::Met(trace) => Ok(trace.events.len()),
         Reachability::Never => Ok(1000),
         Reachability::Cut { .. } => Ok(2000),
@@ -70,9 +72,10 @@ const NOTHING: Budget = Budget {
 #[test]
 fn one_of_two_gets_the_page(rt: HostRuntime) -> Result<(), Fail> {
     let met = both(AnswerWord::Mapped, AnswerWord::NoFrame);
-    let turns = said(rt.alloc(), &met, NOTHING, 1000);
+    let turns = said(&rt, rt.alloc(), &met, NOTHING, 1000);
     assert!(rt; matches!(turns, Ok(15)));
     let never = said(
+        &rt,
         rt.alloc(),
         &both(AnswerWord::Mapped, AnswerWord::Mapped),
         NOTHING,
@@ -85,13 +88,13 @@ fn one_of_two_gets_the_page(rt: HostRuntime) -> Result<(), Fail> {
 #[test]
 fn a_denial_is_made_where_one_is_allowed(rt: HostRuntime) -> Result<(), Fail> {
     let denied = both(AnswerWord::Mapped, AnswerWord::NoMemory);
-    let never = said(rt.alloc(), &denied, NOTHING, 1000);
+    let never = said(&rt, rt.alloc(), &denied, NOTHING, 1000);
     assert!(rt; matches!(never, Ok(1000)));
     let budget = Budget {
         denials: 1,
         kills: 0,
     };
-    let met = said(rt.alloc(), &denied, budget, 1000);
+    let met = said(&rt, rt.alloc(), &denied, budget, 1000);
     assert!(rt; matches!(met, Ok(12)));
     Ok(())
 }
@@ -99,7 +102,7 @@ fn a_denial_is_made_where_one_is_allowed(rt: HostRuntime) -> Result<(), Fail> {
 #[test]
 fn too_many_states_are_told(rt: HostRuntime) -> Result<(), Fail> {
     let never = both(AnswerWord::Mapped, AnswerWord::Mapped);
-    let cut = said(rt.alloc(), &never, NOTHING, 2);
+    let cut = said(&rt, rt.alloc(), &never, NOTHING, 2);
     assert!(rt; matches!(cut, Ok(2000)));
     Ok(())
 }

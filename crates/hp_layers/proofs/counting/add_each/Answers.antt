@@ -32,9 +32,10 @@ add_ways-requires-clause-within g c =
 
 pub loop-state-preserved : goal.loop-state-preserved
 loop-state-preserved g c =
+    let key_eq = g.met.M.Key.Eq g.world.𝓛 g.world.𝓜 g.world.𝓡 ((λ s x. x), (λ x. x), (λ x. x), λ x. x) in
     let m = c.args.system.now in
     let eq = g.M.Key.PartialEq.eq in
-    let laws = g.met.M.Key.Eq.laws in
+    let laws = key_eq.laws in
     let key_of = g.M.Turns.key_of m in
     let valid = g.M.Turns.valid m in
     let alike = g.M.Turns.alike m in

@@ -1,7 +1,8 @@
-use Rattle.std.proofs.Common.{◌≡◌, length, take}
+use Rattle.std.proofs.Common.{◌≡◌, ◌+◌, ◌<◌, ◌≤◌, get_or, length, take}
 use Rattle.std.specs.HashMap.{get}
+use Rattle.hp_workers.specs.Claims.{AreOwn}
 use Rattle.hp_layers.specs.Layers.{AreNext, AreValid}
-use Rattle.hp_layers.specs.Named.{IsIndexed}
+use Rattle.hp_layers.specs.Named.{AreEach, IsIndexed}
 use Rattle.hp_layers.proofs.Spreading.{MoveSo}
 use Rattle.hp_layers.proofs.counting.next_counts.Given as goal
 
@@ -13,4 +14,7 @@ invariant-loop-place g l = record {
   next : AreNext (g.M.Turns.turn l.system) (g.M.Turns.alike l.system) (take l.place l.layer.states.items) l.next.states.items;
   moves : MoveSo (g.M.Ends.step l.system) (g.M.Turns.key_of l.system) (get g.M.Key.PartialEq.eq l.places)
       (take l.place l.layer.states.items) (take l.place l.layer.ways.items) l.next.ways.items;
+  begins : l.begin ≤ l.place;
+  own : l.begin < l.place → AreOwn (λ at after. (d : _)
+      → AreEach (g.M.Ends.step l.system) (get_or l.layer.states.items (l.begin + at) d) after.items) l.ahead.items;
 }

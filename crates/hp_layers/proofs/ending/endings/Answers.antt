@@ -9,7 +9,7 @@ use Rattle.hp_layers.specs.Layers.{AreKeysOf, IsLayer}
 use Rattle.hp_layers.specs.Named.{AreAllTold, AreTold}
 use Rattle.hp_layers.proofs.Covering.{first_keys}
 use Rattle.hp_layers.proofs.Indexing.{none_indexed}
-use Rattle.hp_layers.proofs.Layering.{crowded, first_layer, layer_valid, next_is_layer}
+use Rattle.hp_layers.proofs.Layering.{crowded, ends, first_layer, layer_valid, next_is_layer}
 use Rattle.hp_layers.proofs.Seating.{places_stand}
 use Rattle.hp_layers.proofs.Spreading.{AreSpread, no_run_left, spread_first, spread_next, told_first, told_more}
 use Rattle.hp_layers.proofs.Taking.{all_ended, ended_before, has_before_first, has_before_next, none_shortest, shortest_next}
@@ -17,6 +17,9 @@ use Rattle.hp_layers.proofs.ending.endings.Goals as goal
 
 pub loop-turns-init : goal.loop-turns-init
 loop-turns-init g c =
+    let key_eq = g.met.M.Key.Eq g.world.𝓛 g.world.𝓜 g.world.𝓡 ((λ s x. x), (λ x. x), (λ x. x), λ x. x) in
+    let turns = g.met.M.Turns g.world.𝓛 g.world.𝓜 g.world.𝓡 ((λ s x. x), (λ x. x), (λ x. x), λ x. x) in
+    let ends_so = g.met.M.Ends g.world.𝓛 g.world.𝓜 g.world.𝓡 ((λ s x. x), (λ x. x), (λ x. x), λ x. x) in
     let m = c.args.system.now in
     let first = c.args.first in
     let turn = g.M.Turns.turn m in
@@ -25,7 +28,7 @@ loop-turns-init g c =
     let ending = g.M.Ends.ending_of m in
     let eq = g.M.Ending.PartialEq.eq in
     let key_of = g.M.Turns.key_of m in
-    let good = g.met.M.Turns.as_good m in
+    let good = turns.as_good m in
     let itself = good.itself first c.requires in
     let none : (q : _) → get eq c.new-places.result q ≡ None = λ q. ap (lookup (eq q)) c.new-places.ensures.empty in
     let states : c.push.new.self.items ≡ first ∷ [] =
@@ -43,22 +46,24 @@ loop-turns-init g c =
       keys = (
         key_of first ∷ [],
         subst (λ (l : List _). AreKeysOf g.M.Key.PartialEq.eq key_of (key_of first ∷ []) l) (sym states)
-            (first_keys g.M.Key.PartialEq.eq key_of first g.met.M.Key.Eq.laws.symm),
+            (first_keys g.M.Key.PartialEq.eq key_of first key_eq.laws.symm),
       );
       spread = spread_first step alike first _ states ns itself;
-      told = told_first turn alike step first (g.met.M.Ends.are_named m) good.onward itself eq ending (g.met.M.Ends.ends_alike m)
+      told = told_first turn alike step first (ends_so.are_named m) good.onward itself eq ending (ends_so.ends_alike m)
           c.no_counts-counts.result c.no_counts-counts.ensures.states c.no_counts-counts.ensures.ways;
     }
 
 pub next_counts-requires-clause-valid : goal.next_counts-requires-clause-valid
-next_counts-requires-clause-valid g c =
-    let good = g.met.M.Turns.as_good c.args.system.now in
+next_counts-requires-clause-valid g c κs live =
+    let turns = g.met.M.Turns g.world.𝓛 g.world.𝓜 g.world.𝓡 ((λ s x. x), (λ x. x), (λ x. x), λ x. x) in
+    let good = turns.as_good c.args.system.now in
     layer_valid (g.M.Turns.valid c.args.system.now) (g.M.Turns.turn c.args.system.now) (g.M.Turns.alike c.args.system.now) c.args.first
     c.loop-turns.turns c.loop-turns.layer.states.items good.stays c.requires c.loop-turns.invariant.layer
 
 pub returns-then-is_empty : goal.returns-then-is_empty
 unfolding AreRight AreCutAtLimits AreAllTold
 returns-then-is_empty g c =
+    let ends_so = g.met.M.Ends g.world.𝓛 g.world.𝓜 g.world.𝓡 ((λ s x. x), (λ x. x), (λ x. x), λ x. x) in
     let m = c.args.system.now in
     let turn = g.M.Turns.turn m in
     let alike = g.M.Turns.alike m in
@@ -72,29 +77,32 @@ returns-then-is_empty g c =
       right = (
         all_ended turn alike ending c.args.first (has_place (get eq c.loop-turns.places)) c.loop-turns.turns c.loop-turns.counts.states.items
             empty was.before
-            (places_stand eq ending (get eq c.loop-turns.places) c.loop-turns.counts.states.items (g.met.M.Ends.ends_alike m).one c.args.first
+            (places_stand eq ending (get eq c.loop-turns.places) c.loop-turns.counts.states.items (ends_so.ends_alike m).one c.args.first
             was.indexed),
         was.shortest,
       );
       counted = (
         c.loop-turns.turns,
         was.told,
-        no_run_left turn alike (g.M.Ends.step m) c.args.first (g.met.M.Ends.are_named m) c.loop-turns.turns empty,
+        no_run_left turn alike (g.M.Ends.step m) c.args.first (ends_so.are_named m) c.loop-turns.turns empty,
       );
-      cut = tt;
+      cut = λ n s le r.
+          ends turn alike c.args.first c.loop-turns.turns empty n (omega (arith, le, c.loop-turns-test.true)) s r;
     }
 
 -- the endings of this layer are taken
 pub returns-in_default : goal.returns-in_default
 unfolding AreRight AreCutAtLimits AreAllTold
 returns-in_default g c =
+    let turns = g.met.M.Turns g.world.𝓛 g.world.𝓜 g.world.𝓡 ((λ s x. x), (λ x. x), (λ x. x), λ x. x) in
+    let ends_so = g.met.M.Ends g.world.𝓛 g.world.𝓜 g.world.𝓡 ((λ s x. x), (λ x. x), (λ x. x), λ x. x) in
     let m = c.args.system.now in
     let turn = g.M.Turns.turn m in
     let alike = g.M.Turns.alike m in
     let step = g.M.Ends.step m in
     let ending = g.M.Ends.ending_of m in
     let eq = g.M.Ending.PartialEq.eq in
-    let good = g.met.M.Turns.as_good m in
+    let good = turns.as_good m in
     let was = c.loop-turns.invariant in
     let took = c.in_ok-take_counts.ensures in
     let before = get eq c.loop-turns.places in
@@ -110,13 +118,13 @@ returns-in_default g c =
       right = (
         ended_before turn ending c.args.first more (n + 1) c.take_counts.new.table.states.items
             (has_before_next eq turn alike ending c.args.first has more n states c.loop-turns.counts.states.items
-            c.take_counts.new.table.states.items (g.met.M.Ends.ends_alike m) was.layer took.taken was.before)
-            (places_stand eq ending after c.take_counts.new.table.states.items (g.met.M.Ends.ends_alike m).one c.args.first took.indexed),
+            c.take_counts.new.table.states.items (ends_so.ends_alike m) was.layer took.taken was.before)
+            (places_stand eq ending after c.take_counts.new.table.states.items (ends_so.ends_alike m).one c.args.first took.indexed),
         shortest_next turn alike ending c.args.first has more n states c.loop-turns.counts.states.items
             c.take_counts.new.table.states.items was.layer took.taken was.before was.shortest,
       );
-      counted = told_more turn alike step c.args.first (g.met.M.Ends.are_named m) good.onward (good.itself c.args.first c.requires) eq ending
-          (g.met.M.Ends.ends_alike m) n before after c.loop-turns.layer c.loop-turns.counts c.take_counts.new.table was.even was.spread
+      counted = told_more turn alike step c.args.first (ends_so.are_named m) good.onward (good.itself c.args.first c.requires) eq ending
+          (ends_so.ends_alike m) n before after c.loop-turns.layer c.loop-turns.counts c.take_counts.new.table was.even was.spread
           took.ways took.indexed was.told took.long;
       cut = inr (crowded g.M.Key.PartialEq.eq (g.M.Turns.key_of m) turn alike c.args.first c.args.limits.states
           c.saturating_sub-room.result n was.keys.0 states was.keys.1 was.layer lacks wide);
@@ -124,13 +132,15 @@ returns-in_default g c =
 
 pub loop-turns-preserved : goal.loop-turns-preserved
 loop-turns-preserved g c =
+    let turns = g.met.M.Turns g.world.𝓛 g.world.𝓜 g.world.𝓡 ((λ s x. x), (λ x. x), (λ x. x), λ x. x) in
+    let ends_so = g.met.M.Ends g.world.𝓛 g.world.𝓜 g.world.𝓡 ((λ s x. x), (λ x. x), (λ x. x), λ x. x) in
     let m = c.args.system.now in
     let turn = g.M.Turns.turn m in
     let alike = g.M.Turns.alike m in
     let step = g.M.Ends.step m in
     let ending = g.M.Ends.ending_of m in
     let eq = g.M.Ending.PartialEq.eq in
-    let good = g.met.M.Turns.as_good m in
+    let good = turns.as_good m in
     let was = c.loop-turns.invariant in
     let took = c.in_ok-take_counts.ensures in
     let before = get eq c.loop-turns.places in
@@ -151,18 +161,19 @@ loop-turns-preserved g c =
       shortest = shortest_next turn alike ending c.args.first has more n layer.states.items c.loop-turns.counts.states.items
           c.take_counts.new.table.states.items was.layer took.taken was.before was.shortest;
       before = has_before_next eq turn alike ending c.args.first has more n layer.states.items c.loop-turns.counts.states.items
-          c.take_counts.new.table.states.items (g.met.M.Ends.ends_alike m) was.layer took.taken was.before;
+          c.take_counts.new.table.states.items (ends_so.ends_alike m) was.layer took.taken was.before;
       keys = rw c.in-Some.is at c.in_ok-next.ensures.keys;
       spread = subst (λ (k : ℕ). AreSpread step alike c.args.first k c.in-Some.next) next
-          (spread_next turn alike step c.args.first (g.met.M.Ends.are_named m) good.onward itself n layer c.in-Some.next was.even was.spread
+          (spread_next turn alike step c.args.first (ends_so.are_named m) good.onward itself n layer c.in-Some.next was.even was.spread
           (rw c.in-Some.is at c.in_ok-next.ensures.goes));
-      told = told_more turn alike step c.args.first (g.met.M.Ends.are_named m) good.onward itself eq ending (g.met.M.Ends.ends_alike m) n before
+      told = told_more turn alike step c.args.first (ends_so.are_named m) good.onward itself eq ending (ends_so.ends_alike m) n before
           after layer c.loop-turns.counts c.take_counts.new.table was.even was.spread took.ways took.indexed was.told took.long;
     }
 
 pub returns : goal.returns
 unfolding AreRight AreCutAtLimits AreAllTold
 returns g c =
+    let ends_so = g.met.M.Ends g.world.𝓛 g.world.𝓜 g.world.𝓡 ((λ s x. x), (λ x. x), (λ x. x), λ x. x) in
     let m = c.args.system.now in
     let turn = g.M.Turns.turn m in
     let ending = g.M.Ends.ending_of m in
@@ -174,7 +185,7 @@ returns g c =
       right = (
         subst (λ (k : ℕ). (n : ℕ) → n < k → HasEndings turn ending c.args.first c.loop-turns.counts.states.items n) e
             (ended_before turn ending c.args.first (has_place places) c.loop-turns.turns c.loop-turns.counts.states.items was.before
-            (places_stand eq ending places c.loop-turns.counts.states.items (g.met.M.Ends.ends_alike m).one c.args.first was.indexed)),
+            (places_stand eq ending places c.loop-turns.counts.states.items (ends_so.ends_alike m).one c.args.first was.indexed)),
         was.shortest,
       );
       counted = subst (λ (k : ℕ). AreTold (g.M.Ends.step m) ending c.args.first k c.loop-turns.counts) e was.told;

@@ -14,6 +14,6 @@ loop-state-preserved g c = (
 )
 
 pub add-requires-clause-state : goal.add-requires-clause-state
-add-requires-clause-state g c =
+add-requires-clause-state g c κs within =
     valid_last (g.M.Turns.valid c.args.system.now) c.loop-state.left.items c.pop.new.self.items c.in-Some.state c.in-Some.ensures.items
     c.loop-state.invariant.3

@@ -1,68 +1,94 @@
-use Rattle.std.proofs.Common.{arith, ◌∙◌, sym, ap, ◌++◌, ◌∷◌, [], subst, List, take}
-use Rattle.std.specs.Prelude.{Contains}
-use Rattle.std.proofs.lemmas.List.{take_more}
-use Rattle.std.proofs.lemmas.List.Elements.{Contains-get_or}
+use Rattle.std.proofs.Common.{arith, ◌≡◌, ◌<◌, ◌≤◌, ◌+◌, ◌∙◌, sym, ap, ◌++◌, ◌∷◌, [], ℕ, subst, length, get_or, List, take}
 use Rattle.std.specs.List.{list_any}
 use Rattle.std.specs.HashSet.{contains}
-use Rattle.hp_layers.specs.Layers.{AreNext}
+use Rattle.std.proofs.lemmas.Grind.{common_steps}
+use Rattle.std.proofs.lemmas.List.{take_all}
+use Rattle.hp_layers.specs.Layers.{AreAllAfter, AreNext}
 use Rattle.hp_layers.proofs.Covering.{after_one, are_valid, lacks_room, next_of_none, next_on, none_counted, none_stand, none_valid}
 use Rattle.hp_layers.proofs.Covering.{valid_after}
+use Rattle.hp_layers.proofs.Portions.{at_place, item_at, item_there, part_before, part_own, part_valid, take_item}
 use Rattle.hp_layers.proofs.layer.next_layer.Goals as goal
 
-pub loop-state-init : goal.loop-state-init
-loop-state-init g c =
+pub loop-place-init : goal.loop-place-init
+loop-place-init g c =
     let turn = g.M.Turns.turn c.args.system.now in
     let alike = g.M.Turns.alike c.args.system.now in
-    let eq = g.M.Key.PartialEq.eq in (
-      none_stand eq (g.M.Turns.key_of c.args.system.now) (contains eq c.new-seen.result) c.new-next.result.items
-          (λ k. ap (list_any (eq k)) c.new-seen.ensures.empty),
-      subst (λ (l : List _). AreNext turn alike [] l) (sym c.new-next.ensures.items) (next_of_none turn alike),
-      none_valid (g.M.Turns.valid c.args.system.now) c.new-next.result.items c.new-next.ensures.items,
-      none_counted eq c.new-seen.result.keys c.new-next.result.items c.new-seen.ensures.empty c.new-next.ensures.items,
-    )
+    let eq = g.M.Key.PartialEq.eq in
+    record {
+      stand = none_stand eq (g.M.Turns.key_of c.args.system.now) (contains eq c.new-seen.result) c.new-next.result.items
+          (λ k. ap (list_any (eq k)) c.new-seen.ensures.empty);
+      next = subst (λ (l : List _). AreNext turn alike [] l) (sym c.new-next.ensures.items) (next_of_none turn alike);
+      valid = none_valid (g.M.Turns.valid c.args.system.now) c.new-next.result.items c.new-next.ensures.items;
+      counted = none_counted eq c.new-seen.result.keys c.new-next.result.items c.new-seen.ensures.empty c.new-next.ensures.items;
+      begins = omega arith;
+      own = λ more. absurd (omega (arith, more));
+    }
 
-pub loop-state-preserved : goal.loop-state-preserved
-loop-state-preserved g c =
+pub next_made-requires-clause-each : goal.next_made-requires-clause-each
+next_made-requires-clause-each g c κs live = λ place lt.
+    part_valid (g.M.Turns.valid c.args.system.now) c.args.layer.now c.requires.layer c.part_of-begin.result c.part_len-states.result
+    c.part_len-states.ensures.within place lt
+
+pub next_made-requires-clause-own : goal.next_made-requires-clause-own
+next_made-requires-clause-own g c κs live = λ more.
     let turn = g.M.Turns.turn c.args.system.now in
     let alike = g.M.Turns.alike c.args.system.now in
-    let good = g.met.M.Turns.as_good c.args.system.now in
-    let state = c.state-item.result in (
-      c.in_ok-add_all.ensures.stand,
-      subst (λ (l : List _). AreNext turn alike l c.add_all.new.next.items)
-          (sym (take_more c.args.layer.now c.loop-state.state-index state c.loop-state-test.true
-          ∙ ap (λ (x : _). take c.loop-state.state-index c.args.layer.now ++ x ∷ []) (sym c.state-item.is)))
-          (next_on turn alike (take c.loop-state.state-index c.args.layer.now) c.loop-state.next.items c.in_ok-after.after.items
-          c.add_all.new.next.items state good.onward c.loop-state.invariant.1 c.in_ok-after.ensures c.in_ok-add_all.ensures.added),
-      c.in_ok-add_all.ensures.next,
-      c.in_ok-add_all.ensures.counted,
-    )
-
-pub after-requires : goal.after-requires
-after-requires g c =
-    are_valid (g.M.Turns.valid c.args.system.now) c.args.layer.now c.requires.layer c.state-item.result
-    (subst (Contains c.args.layer.now) (sym c.state-item.is)
-    (Contains-get_or c.args.layer.now c.loop-state.state-index c.state-item.result c.loop-state-test.true))
+    part_own (λ (b at : ℕ) (after : _). (d : _) → AreAllAfter turn alike (get_or c.args.layer.now (b + at) d) after.items) c.loop-place.ahead.items
+    c.loop-place.begin c.part_of-begin.result c.loop-place.place c.part_of-begin.ensures c.loop-place.invariant.own more
 
 pub add_all-requires-clause-states : goal.add_all-requires-clause-states
-add_all-requires-clause-states g c =
+add_all-requires-clause-states g c κs live =
+    let turns = g.met.M.Turns g.world.𝓛 g.world.𝓜 g.world.𝓡 ((λ s x. x), (λ x. x), (λ x. x), λ x. x) in
+    let turn = g.M.Turns.turn c.args.system.now in
+    let alike = g.M.Turns.alike c.args.system.now in
     let valid = g.M.Turns.valid c.args.system.now in
-    let good = g.met.M.Turns.as_good c.args.system.now in
-    valid_after valid (g.M.Turns.turn c.args.system.now) (g.M.Turns.alike c.args.system.now) c.state-item.result c.in_ok-after.after.items
-    good.stays
-    (are_valid valid c.args.layer.now c.requires.layer c.state-item.result
-    (subst (Contains c.args.layer.now) (sym c.state-item.is)
-    (Contains-get_or c.args.layer.now c.loop-state.state-index c.state-item.result c.loop-state-test.true)))
-    c.in_ok-after.ensures
+    let good = turns.as_good c.args.system.now in
+    let layer = c.args.layer.now in
+    let k = c.loop-place.place in
+    let after = c.in_ok-after.after.items in
+    let there : k < length layer = c.loop-place-test.true in
+    let before = part_before c.loop-place.begin c.part_of-begin.result k c.part_of-begin.ensures c.loop-place.invariant.begins in
+    let s = item_at layer k there in
+    valid_after valid turn alike s.0 after good.stays (are_valid valid layer c.requires.layer s.0 (item_there layer k there))
+    (at_place (λ (x : _). AreAllAfter turn alike x after) layer c.part_of-begin.result k there before c.in_ok-after.ensures.right)
+
+pub loop-place-preserved : goal.loop-place-preserved
+loop-place-preserved g c =
+    let turns = g.met.M.Turns g.world.𝓛 g.world.𝓜 g.world.𝓡 ((λ s x. x), (λ x. x), (λ x. x), λ x. x) in
+    let turn = g.M.Turns.turn c.args.system.now in
+    let alike = g.M.Turns.alike c.args.system.now in
+    let good = turns.as_good c.args.system.now in
+    let layer = c.args.layer.now in
+    let k = c.loop-place.place in
+    let after = c.in_ok-after.after.items in
+    let new = c.add_all.new.next.items in
+    let was = c.loop-place.invariant in
+    let there : k < length layer = c.loop-place-test.true in
+    let before = part_before c.loop-place.begin c.part_of-begin.result k c.part_of-begin.ensures was.begins in
+    let s = item_at layer k there in
+    let right = at_place (λ (x : _). AreAllAfter turn alike x after) layer c.part_of-begin.result k there before c.in_ok-after.ensures.right in
+    record {
+      stand = c.in_ok-add_all.ensures.stand;
+      next = subst (λ (l : List _). AreNext turn alike l new) (sym (take_item layer k there))
+          (next_on turn alike (take k layer) c.loop-place.next.items after new s.0 good.onward was.next right c.in_ok-add_all.ensures.added);
+      valid = c.in_ok-add_all.ensures.next;
+      counted = c.in_ok-add_all.ensures.counted;
+      begins = omega (arith, before);
+      own = λ more. c.in_ok-after.ensures.own;
+    }
 
 pub returns-then-len-room-clause-none : goal.returns-then-len-room-clause-none
 returns-then-len-room-clause-none g c =
-    let layer = c.args.layer.now in
-    let state = c.state-item.result in
     let turn = g.M.Turns.turn c.args.system.now in
     let alike = g.M.Turns.alike c.args.system.now in
-    let there = subst (Contains layer) (sym c.state-item.is)
-    (Contains-get_or layer c.loop-state.state-index state c.loop-state-test.true) in
+    let layer = c.args.layer.now in
+    let k = c.loop-place.place in
+    let after = c.in_ok-after.after.items in
+    let there : k < length layer = c.loop-place-test.true in
+    let before = part_before c.loop-place.begin c.part_of-begin.result k c.part_of-begin.ensures c.loop-place.invariant.begins in
+    let s = item_at layer k there in
+    let right = at_place (λ (x : _). AreAllAfter turn alike x after) layer c.part_of-begin.result k there before c.in_ok-after.ensures.right in
     lacks_room g.M.Key.PartialEq.eq (g.M.Turns.key_of c.args.system.now) turn layer c.add_all.new.next.items c.add_all.new.seen.keys
     c.args.room c.in_ok-add_all.ensures.counted c.in_ok-add_all.ensures.stand (grind (arith, c.if-len-room.true, c.len.ensures))
-    (λ t. after_one turn alike layer c.loop-state.next.items c.in_ok-after.after.items c.add_all.new.next.items c.loop-state.state-index
-    state t there c.loop-state.invariant.1 c.in_ok-after.ensures c.in_ok-add_all.ensures.added)
+    (λ t. after_one turn alike layer c.loop-place.next.items after c.add_all.new.next.items k s.0 t (item_there layer k there)
+    c.loop-place.invariant.next right c.in_ok-add_all.ensures.added)

@@ -1,11 +1,16 @@
-use Rattle.std.proofs.Common.{take}
+use Rattle.std.proofs.Common.{◌+◌, ◌<◌, ◌≤◌, get_or, take}
 use Rattle.std.specs.HashSet.{contains}
-use Rattle.hp_layers.specs.Layers.{AreCounted, AreNext, AreValid, KeysStand}
+use Rattle.hp_workers.specs.Claims.{AreOwn}
+use Rattle.hp_layers.specs.Layers.{AreAllAfter, AreCounted, AreNext, AreValid, KeysStand}
 use Rattle.hp_layers.proofs.layer.next_layer.Given as goal
 
-abbrev pub invariant-loop-state : goal.invariant-loop-state
-invariant-loop-state g l =
-    KeysStand g.M.Key.PartialEq.eq (g.M.Turns.key_of l.system) (contains g.M.Key.PartialEq.eq l.seen) l.next.items
-    × AreNext (g.M.Turns.turn l.system) (g.M.Turns.alike l.system) (take l.state-index l.layer) l.next.items
-    × AreValid (g.M.Turns.valid l.system) l.next.items
-    × AreCounted g.M.Key.PartialEq.eq l.seen.keys l.next.items
+abbrev pub invariant-loop-place : goal.invariant-loop-place
+invariant-loop-place g l = record {
+  stand : KeysStand g.M.Key.PartialEq.eq (g.M.Turns.key_of l.system) (contains g.M.Key.PartialEq.eq l.seen) l.next.items;
+  next : AreNext (g.M.Turns.turn l.system) (g.M.Turns.alike l.system) (take l.place l.layer) l.next.items;
+  valid : AreValid (g.M.Turns.valid l.system) l.next.items;
+  counted : AreCounted g.M.Key.PartialEq.eq l.seen.keys l.next.items;
+  begins : l.begin ≤ l.place;
+  own : l.begin < l.place → AreOwn (λ at after. (d : _)
+      → AreAllAfter (g.M.Turns.turn l.system) (g.M.Turns.alike l.system) (get_or l.layer (l.begin + at) d) after.items) l.ahead.items;
+}

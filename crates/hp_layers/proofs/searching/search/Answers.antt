@@ -8,11 +8,13 @@ use Rattle.hp_layers.proofs.searching.search.Goals as goal
 
 pub loop-turns-init : goal.loop-turns-init
 loop-turns-init g c =
+    let key_eq = g.met.M.Key.Eq g.world.𝓛 g.world.𝓜 g.world.𝓡 ((λ s x. x), (λ x. x), (λ x. x), λ x. x) in
+    let turns = g.met.M.Turns g.world.𝓛 g.world.𝓜 g.world.𝓡 ((λ s x. x), (λ x. x), (λ x. x), λ x. x) in
     let turn = g.M.Turns.turn c.args.system.now in
     let alike = g.M.Turns.alike c.args.system.now in
     let meets = g.M.Turns.meets c.args.system.now in
     let key_of = g.M.Turns.key_of c.args.system.now in
-    let good = g.met.M.Turns.as_good c.args.system.now in (
+    let good = turns.as_good c.args.system.now in (
       subst (λ (l : List _). IsLayer turn alike c.args.first 0 l)
           (sym (c.in_ok-push.ensures.items ∙ (λ i. c.new-layer.ensures.items i ++ c.args.first ∷ [])))
           (first_layer turn alike c.args.first (good.itself c.args.first c.requires)),
@@ -21,7 +23,7 @@ loop-turns-init g c =
         key_of c.args.first ∷ [],
         subst (λ (l : List _). AreKeysOf g.M.Key.PartialEq.eq key_of (key_of c.args.first ∷ []) l)
             (sym (c.in_ok-push.ensures.items ∙ (λ i. c.new-layer.ensures.items i ++ c.args.first ∷ [])))
-            (first_keys g.M.Key.PartialEq.eq key_of c.args.first g.met.M.Key.Eq.laws.symm),
+            (first_keys g.M.Key.PartialEq.eq key_of c.args.first key_eq.laws.symm),
       ),
     )
 
@@ -57,6 +59,7 @@ returns-in-Some g c =
 pub returns-in_default-2 : goal.returns-in_default-2
 unfolding IsRight IsCutAtLimits
 returns-in_default-2 g c =
+    let turns = g.met.M.Turns g.world.𝓛 g.world.𝓜 g.world.𝓡 ((λ s x. x), (λ x. x), (λ x. x), λ x. x) in
     let turn = g.M.Turns.turn c.args.system.now in
     let meets = g.M.Turns.meets c.args.system.now in
     let wide : c.args.limits.states ≤ length c.loop-turns.layer.items + c.saturating_sub-room.result =
@@ -65,7 +68,7 @@ returns-in_default-2 g c =
     record {
       right = none_before_next turn meets c.args.first c.loop-turns.turns c.loop-turns.invariant.1
           (layer_misses (g.M.Turns.valid c.args.system.now) turn (g.M.Turns.alike c.args.system.now) meets c.args.first c.loop-turns.turns
-          c.loop-turns.layer.items (g.met.M.Turns.as_good c.args.system.now) c.loop-turns.invariant.0
+          c.loop-turns.layer.items (turns.as_good c.args.system.now) c.loop-turns.invariant.0
           (subst (λ (l : List _). NoneIsMet meets l) c.deref.ensures.value (c.in_default.ensures.none refl)));
       cut = inr (crowded g.M.Key.PartialEq.eq (g.M.Turns.key_of c.args.system.now) turn (g.M.Turns.alike c.args.system.now) c.args.first
           c.args.limits.states c.saturating_sub-room.result c.loop-turns.turns c.loop-turns.invariant.2.0 c.loop-turns.layer.items
@@ -76,10 +79,11 @@ returns-in_default-2 g c =
 
 pub loop-turns-preserved : goal.loop-turns-preserved
 loop-turns-preserved g c =
+    let turns = g.met.M.Turns g.world.𝓛 g.world.𝓜 g.world.𝓡 ((λ s x. x), (λ x. x), (λ x. x), λ x. x) in
     let turn = g.M.Turns.turn c.args.system.now in
     let alike = g.M.Turns.alike c.args.system.now in
     let meets = g.M.Turns.meets c.args.system.now in
-    let good = g.met.M.Turns.as_good c.args.system.now in
+    let good = turns.as_good c.args.system.now in
     let n = c.loop-turns.turns in
     let next : suc n ≡ n + 1 = omega arith in (
       subst (λ (k : ℕ). IsLayer turn alike c.args.first k c.in-Some-2.next.items) next
@@ -104,12 +108,11 @@ returns g c =
       cut = inl refl;
     }
 
-pub next_layer-requires : goal.next_layer-requires
-next_layer-requires g c =
+pub next_layer-requires-clause-layer : goal.next_layer-requires-clause-layer
+next_layer-requires-clause-layer g c κs live =
+    let turns = g.met.M.Turns g.world.𝓛 g.world.𝓜 g.world.𝓡 ((λ s x. x), (λ x. x), (λ x. x), λ x. x) in
     let valid = g.M.Turns.valid c.args.system.now in
-    let good = g.met.M.Turns.as_good c.args.system.now in
-    record {
-      layer = subst (λ (l : List _). AreValid valid l) (sym c.deref-in-loop-turns.ensures.value)
-          (layer_valid valid (g.M.Turns.turn c.args.system.now) (g.M.Turns.alike c.args.system.now) c.args.first c.loop-turns.turns
-          c.loop-turns.layer.items good.stays c.requires c.loop-turns.invariant.0);
-    }
+    let good = turns.as_good c.args.system.now in
+    subst (λ (l : List _). AreValid valid l) (sym c.deref-in-loop-turns.ensures.value)
+    (layer_valid valid (g.M.Turns.turn c.args.system.now) (g.M.Turns.alike c.args.system.now) c.args.first c.loop-turns.turns
+    c.loop-turns.layer.items good.stays c.requires c.loop-turns.invariant.0)

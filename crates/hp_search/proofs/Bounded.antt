@@ -1,0 +1,85 @@
+-- A table of endings is cut at its limits, and its rows are within them.
+use Rattle.std.proofs.Common.{◌≡◌, ◌∙◌, ℕ, ◌<◌, ◌≤◌, ap, sym, subst, inl, inr, arith, List, [], length, get_or}
+use Rattle.std.specs.Cmp.Lexicographic.{bytes_decides, nat_list_eq_equiv, pointwise}
+use Rattle.std.specs.Prelude.{◌⊎◌, All, Bool, nat_eq}
+use Rattle.std.proofs.lemmas.Bool.{cases_lt}
+use Rattle.std.proofs.lemmas.List.Elements.{Contains-get_or}
+use Rattle.std.proofs.lemmas.Map.Views.{list_any-from_Contains}
+use Rattle.hp_base.specs.declared.event.Event.{Event}
+use Rattle.hp_layers.specs.Ended.{AreCutAtLimits, AreShortest}
+use Rattle.hp_layers.specs.Layers.{AreReached, IsCrowded, IsReached}
+use Rattle.hp_layers.specs.declared.counting.RunCounts.{RunCounts}
+use Rattle.hp_layers.specs.declared.ending.EndingTable.{EndingTable}
+use Rattle.hp_layers.specs.declared.ending.EndingTable.TheVariants.{Whole, Cut}
+use Rattle.hp_layers.specs.declared.limits.Limits.{Limits}
+use Rattle.hp_every.specs.declared.turn.Turn.{Turn}
+use Rattle.hp_every.specs.Endings.{EndState, GoesOnBy, IsEndState}
+use Rattle.hp_every.specs.Search.{Question}
+use Rattle.hp_every.proofs.Answers.{turn_count}
+use Rattle.hp_every.proofs.Endings.{reached_so}
+use Rattle.hp_every.proofs.Runs.{event_count}
+use Rattle.hp_search.specs.Endings.{AreEndKeysOf, AreRowsOf, AreTooMany}
+use Rattle.hp_search.specs.declared.endings.EndingRow.{EndingRow}
+
+-- ---- what the layers say of their limits
+
+pub whole_within : {S K : Type 0} (eq : K → K → Bool) (key_of : S → K) (turn : S → S → Type 0) (first : S) (limits : Limits)
+    (table : EndingTable S) (counts : RunCounts S) → table ≡ Whole counts → AreCutAtLimits eq key_of turn first limits table
+    → (n : ℕ) (s : S) → limits.turns ≤ n → IsReached turn first n s → ⊥
+unfolding AreCutAtLimits
+whole_within eq key_of turn first limits table counts is h = subst (AreCutAtLimits eq key_of turn first limits) is h
+
+pub cut_within : {S K : Type 0} (eq : K → K → Bool) (key_of : S → K) (turn : S → S → Type 0) (first : S) (limits : Limits)
+    (table : EndingTable S) (counts : RunCounts S) (n : ℕ) → table ≡ Cut counts n → AreCutAtLimits eq key_of turn first limits table
+    → (n ≡ limits.turns) ⊎ IsCrowded eq key_of turn first limits.states n
+unfolding AreCutAtLimits
+cut_within eq key_of turn first limits table counts n is h = subst (AreCutAtLimits eq key_of turn first limits) is h
+
+-- ---- what that says of schedules
+
+-- a row has as many events as its state has turns
+pub rows_few : (a : Question) (first : EndState) → IsEndState a first → first.path.turns ≡ [] → (counts : RunCounts EndState) (limit : ℕ)
+    → AreShortest (GoesOnBy a) (λ (s : EndState). s.ending) first counts.states.items
+    → ((n : ℕ) (s : EndState) → limit ≤ n → IsReached (GoesOnBy a) first n s → ⊥)
+    → (rows : List EndingRow) → AreRowsOf a counts rows → All (λ row. length row.events.items < limit) rows
+unfolding AreShortest
+rows_few a first is empty counts limit shortest over rows of k d within =
+    let inside : k < length counts.states.items = (let long = of.long in omega (arith, within, long)) in
+    let s = get_or counts.states.items k first in
+    let best = shortest s (Contains-get_or counts.states.items k first inside) in
+    let row = of.each k first d within in
+    let right = reached_so a first is empty best.turns s best.reached in
+    let told = ap (λ (es : List Event). length es) (sym row.made) ∙ event_count row.has.moments in
+    let made = ap (λ (ts : List Turn). length ts) (sym row.has.made) ∙ turn_count row.has.moments in
+    elim (cases_lt best.turns limit) [
+      | inl few ↦ omega (arith, told, made, right.1, few)
+      | inr many ↦ absurd (over best.turns s many best.reached)
+    ]
+
+-- keys of what is reached are keys of schedules
+end_keys : (a : Question) (first : EndState) → IsEndState a first → first.path.turns ≡ [] → (n : ℕ) (keys : List (List ℕ))
+    → AreReached (pointwise nat_eq) (λ (s : EndState). s.key) (GoesOnBy a) first n keys → AreEndKeysOf a n keys
+end_keys a first is empty n keys h = record {
+  distinct = h.distinct;
+  each = λ key there. (
+      let s = h.each key (list_any-from_Contains nat_list_eq_equiv key keys there) in
+      let at = reached_so a first is empty n s.0 s.1 in
+      record { state = s.0; right = at.0; long = at.1; is = sym ((bytes_decides s.0.key key).0 s.2) });
+}
+
+-- a table that is cut is cut at its limits
+pub cut_at : (a : Question) (limits : Limits) (first : EndState) → IsEndState a first → first.path.turns ≡ [] → (n : ℕ)
+    → ((n ≡ limits.turns) ⊎ IsCrowded (pointwise nat_eq) (λ (s : EndState). s.key) (GoesOnBy a) first limits.states n)
+    → (n ≡ limits.turns) ⊎ AreTooMany a limits.states n
+cut_at a limits first is empty n cut = elim cut [
+  | inl turns ↦ inl turns
+  | inr crowd ↦ inr (record {
+    before = crowd.before;
+    next = crowd.next;
+    some = crowd.some;
+    others = crowd.others;
+    here = end_keys a first is empty crowd.before crowd.some crowd.here;
+    behind = end_keys a first is empty n crowd.others crowd.behind;
+    many = crowd.many;
+  })
+]
