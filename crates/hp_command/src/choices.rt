@@ -104,7 +104,7 @@ pub(crate) const RUN: Choice = Choice {
     name: "run",
     form: "N",
     takes: Takes::Number(Some("0"), 0, 4_294_967_295),
-    help: "Number of the run, counted from 0",
+    help: "Number of the run, or with --every of the line, counted from 0",
     conflicts: &[],
     needs: &[],
 };
@@ -232,6 +232,15 @@ pub(crate) const ALL: Choice = Choice {
     takes: Takes::Nothing,
     help: "Prints all ways in which schedules end, and how many schedules end so, in place of random runs",
     conflicts: &["seed", "runs", "deny", "kill", "audit", "summary"],
+    needs: &[],
+};
+
+pub(crate) const ENDING: Choice = Choice {
+    name: "every",
+    form: "",
+    takes: Takes::Nothing,
+    help: "Prints a shortest schedule that ends as line N of explore --every says, in place of random run N",
+    conflicts: &["seed", "deny", "kill"],
     needs: &[],
 };
 

@@ -84,7 +84,7 @@ pub(crate) const SCHEDULE: Row = Row {
     usage: "hugepool schedule [OPTIONS] [FILE]",
     told: SCRIPTS,
     operand: Operand::File,
-    choices: &[SEED, RUN, DENY, KILL],
+    choices: &[SEED, RUN, DENY, KILL, ENDING, DENIALS, KILLS, STATES],
 };
 
 pub(crate) const FIND: Row = Row {

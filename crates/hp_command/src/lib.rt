@@ -17,6 +17,6 @@ mod view;
 
 pub use reading::read_words;
 pub use request::{
-    Asked, EveryBounds, EverySearch, Input, PoolRequest, Racing, Request, Scheduling,
+    Asked, EndingChoice, EveryBounds, EverySearch, Input, PoolRequest, Racing, Request, Scheduling,
     ScriptRequest, Search, TraceRequest, When,
 };

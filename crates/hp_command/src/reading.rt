@@ -3,7 +3,7 @@ use crate::choices::SEED;
 use crate::commands::{EXPLORE, FIND, MINIMIZE, RACE, Row, SCHEDULE, invalid, program};
 use crate::conditions::read_conditions;
 use crate::request::{
-    Asked, EveryBounds, EverySearch, Input, PoolRequest, Racing, Request, Scheduling,
+    Asked, EndingChoice, EveryBounds, EverySearch, Input, PoolRequest, Racing, Request, Scheduling,
     ScriptRequest, Search, TraceRequest, When,
 };
 use crate::view::read_view;
@@ -76,9 +76,14 @@ fn exploring(alloc: Global, given: &ArgMatches) -> Result<ScriptRequest, Error> 
 }
 
 fn scheduling(alloc: Global, given: &ArgMatches) -> Result<ScriptRequest, Error> {
+    let run = number(given, "run", 0);
+    if given.get_flag("every") {
+        let bounds = bounds(given);
+        return Ok(ScriptRequest::ScheduleEvery(EndingChoice { bounds, run }));
+    }
     Ok(ScriptRequest::Schedule(Scheduling {
         seed: seed(alloc, given, &SCHEDULE)?,
-        run: number(given, "run", 0),
+        run,
         chances: chances(given),
     }))
 }

@@ -42,6 +42,14 @@ pub struct EveryBounds {
     pub states: u32,
 }
 
+/// Of which way to end a schedule is written as a trace.
+#[derive(Clone, Copy)]
+pub struct EndingChoice {
+    pub bounds: EveryBounds,
+    /// The place of its line in the table of all ways to end, counted from 0.
+    pub run: u32,
+}
+
 /// Which races of a script are run.
 #[derive(Clone, Copy)]
 pub enum Racing {
@@ -89,6 +97,8 @@ pub enum ScriptRequest {
     ExploreEvery(EveryBounds),
     /// To read a script, and write one run of it as a trace.
     Schedule(Scheduling),
+    /// To read a script, and write a shortest schedule that ends in one way as a trace.
+    ScheduleEvery(EndingChoice),
     /// To read a script, and write a run of it that meets conditions as a trace.
     Find(Search),
     /// To read a script, and write the shortest of all its schedules that meets conditions as a trace.

@@ -30,11 +30,13 @@ the same each time. A script whose header begins with script, in place of pool, 
 before a begin of another task: that call begins once all calls of TASK on earlier lines have ended.
 With --every, explore prints a line for each way in which schedules end, of all orders in which the tasks can make their
 steps: how many schedules end so, the events of a shortest one, the counts, and each call with its answer. If the limit
-of --states is reached first, nothing is printed, and the status is 3.
+of --states is reached first, nothing is printed, and the status is 3. schedule --every --run K prints a shortest
+schedule of line K of them, counted from 0; the status is 1 where there are no more than K lines.
 docs/TRACES.md and hugepool replay --help describe traces. Examples:
   hugepool explore --seed 7 --runs 3 examples/truncate-against-store.script
   hugepool explore --every examples/truncate-against-fault.script
-  hugepool schedule --seed 7 examples/truncate-against-store.script | hugepool replay";
+  hugepool schedule --seed 7 examples/truncate-against-store.script | hugepool replay
+  hugepool schedule --every --run 1 examples/truncate-against-fault.script | hugepool explain";
 
 /// Of the loose form.
 pub(crate) const LOOSE: &str = "The loose form is a trace as people write it:

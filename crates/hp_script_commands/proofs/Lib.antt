@@ -1,4 +1,5 @@
 mod Answering
+mod Chosen
 mod Hunted
 mod Scheduled
 mod Searched

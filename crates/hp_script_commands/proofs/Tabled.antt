@@ -1,6 +1,6 @@
 -- A table of endings, through a buffer.
-use Rattle.std.proofs.Common.{◌≡◌, ℕ, List, [], Option, Bool, true, refl, subst, sym, inr}
-use Rattle.std.specs.Prelude.{IfErr, IfOk, MatchBool, OnOk, Result, Ok, Err, Some}
+use Rattle.std.proofs.Common.{◌≡◌, ◌<◌, ℕ, List, [], Option, Bool, true, length, refl, subst, sym, inr}
+use Rattle.std.specs.Prelude.{◌⊎◌, All, IfErr, IfOk, MatchBool, OnOk, Result, Ok, Err, Some}
 use Rattle.std.specs.Io.KnownBytes.{Appends, Keeps, append_known}
 use Rattle.std.proofs.KnownBytes.{Appends-kept}
 use Rattle.hp_base.specs.Text.{sizes}
@@ -9,10 +9,11 @@ use Rattle.hp_program.proofs.Answers.{HasFront, Passes}
 use Rattle.hp_program.proofs.Buffered.{all_of, holds}
 use Rattle.hp_program.specs.Answers.{NotDone, OfScript}
 use Rattle.hp_every.specs.Search.{Question}
-use Rattle.hp_search.specs.Endings.{AreAllEndings, AreAllRows}
+use Rattle.hp_layers.specs.declared.limits.Limits.{Limits}
+use Rattle.hp_search.specs.Endings.{AreAllEndings, AreAllRows, AreTooMany, AreWithin}
 use Rattle.hp_search.specs.declared.endings.EndingRow.{EndingRow}
 use Rattle.hp_search.specs.declared.endings.EndingRows.{EndingRows}
-use Rattle.hp_search.specs.declared.endings.EndingRows.TheVariants.{Whole}
+use Rattle.hp_search.specs.declared.endings.EndingRows.TheVariants.{Whole, Cut}
 use Rattle.hp_script_commands.specs.Tabling.{IsCutShort, IsTableText, Tabulates, TabulatesPartly, schedules_of, table_text}
 use Rattle.hp_text.specs.ScriptLines.{ReadsScript}
 use Rattle.hp_text.specs.Streams.{TellsWrites}
@@ -50,15 +51,26 @@ pub whole_rows : (a : Question) (every : EndingRows) (rows : _) → every ≡ Wh
 unfolding AreAllEndings
 whole_rows a every rows is h = subst (AreAllEndings a) is h
 
+-- and of where it was cut
+pub rows_within : (a : Question) (limits : Limits) (every : EndingRows) (rows : _) → every ≡ Whole rows → AreWithin a limits every
+    → All (λ row. length row.events.items < limits.turns) rows.items
+unfolding AreWithin
+rows_within a limits every rows is h = subst (AreWithin a limits) is h
+
+pub cut_within : (a : Question) (limits : Limits) (every : EndingRows) (turns : ℕ) → every ≡ Cut turns → AreWithin a limits every
+    → (turns ≡ limits.turns) ⊎ AreTooMany a limits.states turns
+unfolding AreWithin
+cut_within a limits every turns is h = subst (AreWithin a limits) is h
+
 -- a script was read, and these are all endings of its schedules
 module _ (b : EveryBounds) (cut : Option ℕ) (from to before after : Option (List ℕ)) (script : Script) (rows : List EndingRow)
     (reads : ReadsScript from to (sizes script.config) script.calls.items script.waits.items) (are : AreAllRows (schedules_of b script) rows) where
   pub tabulates : (written : Result Bool ReplayFault) → OnOk written (Appends before after (table_text rows)) → IfOk written (λ done. done ≡ true)
-      → IfOk written (λ done. MatchBool done (Tabulates b from to before after) (IsCutShort cut from to × Keeps before after))
+      → IfOk written (λ done. MatchBool done (Tabulates b from to before after) (IsCutShort b cut from to × Keeps before after))
   tabulates (Err e) wrote done = tt
   tabulates (Ok x) wrote done =
       let it : Tabulates b from to before after = record { script = script; rows = rows; reads = reads; are = are; wrote = wrote } in
-      subst (λ (y : Bool). MatchBool y (Tabulates b from to before after) (IsCutShort cut from to × Keeps before after)) (sym done) it
+      subst (λ (y : Bool). MatchBool y (Tabulates b from to before after) (IsCutShort b cut from to × Keeps before after)) (sym done) it
 
   pub tabulates_short : (written : Result Bool ReplayFault) (old new : ℕ)
       → IfErr written (λ fault. IsWriteFault fault × Wrote before after (table_text rows)) → TellsWrites written old new

@@ -1,3 +1,4 @@
+pub mod Choosing
 pub mod Hunting
 pub mod Racing
 pub mod Runs

@@ -1,12 +1,13 @@
 -- What comes of `hugepool explore --every`.
-use Rattle.std.specs.Prelude.{◌≡◌, ◌==◌, ◌++◌, ◌∷◌, [], ℕ, Bool, List, Option, Some, Result, codes, if◌then◌else◌, length}
+use Rattle.std.specs.Prelude.{◌≡◌, ◌==◌, ◌⊎◌, ◌++◌, ◌∷◌, [], ℕ, Bool, List, Option, Some, Result, codes, if◌then◌else◌, length}
 use Rattle.std.specs.Fmt.{decimal}
 use Rattle.std.specs.Io.KnownBytes.{Appends}
 use Rattle.std.specs.List.{flat_map}
 use Rattle.hp_base.specs.Text.{sizes}
 use Rattle.hp_layers.specs.Weighed.{most}
+use Rattle.hp_layers.specs.declared.limits.Limits.{Limits}
 use Rattle.hp_every.specs.Search.{Question}
-use Rattle.hp_search.specs.Endings.{AreAllRows}
+use Rattle.hp_search.specs.Endings.{AreAllRows, AreTooMany}
 use Rattle.hp_search.specs.declared.endings.EndingRow.{EndingRow}
 use Rattle.hp_summary.specs.SummaryText.{call_text}
 use Rattle.hp_program.specs.Answers.{AnsweredHunt, OfScript}
@@ -57,12 +58,17 @@ pub record TabulatesPartly (b : EveryBounds) (from to before after : Option (Lis
   pub are : AreAllRows (schedules_of b script) rows
   pub wrote : Wrote before after (table_text rows)
 
--- a script was read, and the limits ran out
-pub record IsCutShort (cut : Option ℕ) (from to : Option (List ℕ)) : Type 0 where
+-- a schedule has fewer than a million turns
+abbrev pub limits_of : EveryBounds → Limits
+limits_of b = record { turns = 1000000; states = b.states }
+
+-- a script was read, and the limits ran out: schedules have a million turns, or more places with answers than may be looked at
+pub record IsCutShort (b : EveryBounds) (cut : Option ℕ) (from to : Option (List ℕ)) : Type 0 where
   pub script : Script
   pub turns : ℕ
   pub reads : ReadsScript from to (sizes script.config) script.calls.items script.waits.items
   pub at : cut ≡ Some turns
+  pub why : (turns ≡ 1000000) ⊎ AreTooMany (schedules_of b script) b.states turns
 
 -- the table of all endings of the script's schedules
 pub record IsTableText (b : EveryBounds) (script : Script) (text : List ℕ) : Type 0 where
@@ -74,4 +80,4 @@ pub record IsTableText (b : EveryBounds) (script : Script) (text : List ℕ) : T
 abbrev pub AnsweredTable : EveryBounds → (cut : Option ℕ) → Result Bool ReplayFault → Option (List ℕ) → Option (List ℕ) → (old new : ℕ)
     → Option (List ℕ) → Option (Option (List ℕ)) → Type 0
 AnsweredTable b cut answer from to old new before after =
-    AnsweredHunt (Tabulates b) (IsCutShort cut) (OfScript (IsTableText b)) HasLinesFault answer from to old new before after
+    AnsweredHunt (Tabulates b) (IsCutShort b cut) (OfScript (IsTableText b)) HasLinesFault answer from to old new before after

@@ -1,10 +1,12 @@
-//! Commands that run a script, and those that search: `explore` and `find` with and without `--every`, `schedule`, `minimize` and `race`.
+//! Commands that run a script, and those that search: `explore`, `find` and `schedule` with and without `--every`, `minimize` and
+//! `race`.
 //!
 //! It stands on the crates that explore, search and race, on hp_program's frame for outputs, and on hp_command for what is asked. It
 //! promises of each command what is answered, and what was read and written then (`Runs.antt`, `Hunting.antt`, `Racing.antt`,
-//! `Searching.antt`, `Summing.antt`). What it says on standard error of a search's progress and of the run that was found is only tested.
+//! `Searching.antt`, `Tabling.antt`, `Choosing.antt`, `Summing.antt`). What it says on standard error of a search's progress and of the run that was found is only tested.
 #![tactic(auto)]
 
+mod choosing;
 mod exploring;
 mod finding;
 mod minimizing;
@@ -15,6 +17,7 @@ mod searching;
 mod summarizing;
 mod tabling;
 
+pub use choosing::run_schedule_every;
 pub use exploring::run_explore;
 pub use finding::run_find;
 pub use minimizing::run_minimize;

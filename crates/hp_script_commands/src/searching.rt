@@ -19,13 +19,14 @@ use hp_search::{Budget, Reachability, find_every};
 use hp_text::{ReplayFault, Sink, Source, Trace, read_any_script, write_trace};
 use std::alloc::Global;
 use std::io::Write;
+use std::thread::Threads;
 use std::time::Clock;
 
 /// No schedule has as many turns: an explored run is ended there, too.
 pub(crate) const MOST_TURNS: u32 = 1_000_000;
 
-// Writes the trace of a schedule that was found.
-fn write_shortest<W: Sink>(
+/// Writes the trace of a schedule that was found.
+pub(crate) fn write_shortest<W: Sink>(
     alloc: Global,
     trace: &Trace,
     writer: &mut W,
@@ -45,7 +46,7 @@ fn write_shortest<W: Sink>(
 /// Reads a script, and writes the shortest schedule of it that meets the conditions. Tells whether one does. Where the limits ran out
 /// before, `cut` tells of how many turns none does.
 fn find_in_all<R: Source, W: Sink>(
-    rt: &impl Clock,
+    rt: &(impl Clock + Threads + Sync),
     alloc: Global,
     search: &EverySearch,
     reader: &mut R,
@@ -77,7 +78,15 @@ fn find_in_all<R: Source, W: Sink>(
     };
     let conditions = search.conditions.as_slice();
     let mut progress = ProgressLine::new(rt, faults);
-    let every = find_every(alloc, &script, budget, conditions, limits, &mut progress);
+    let every = find_every(
+        rt,
+        alloc,
+        &script,
+        budget,
+        conditions,
+        limits,
+        &mut progress,
+    );
     progress.end();
     match every? {
         Reachability::Met(trace) => write_shortest(alloc, &trace, writer),
@@ -92,7 +101,7 @@ fn find_in_all<R: Source, W: Sink>(
 /// Searches all schedules of a script. Answers whether one meets the conditions. If none was found since the limits ran out, `cut` tells
 /// of how many turns none does. Output is buffered.
 pub fn run_find_every<R: Source, W: Write + Drop>(
-    rt: &impl Clock,
+    rt: &(impl Clock + Threads + Sync),
     alloc: Global,
     search: &EverySearch,
     reader: &mut R,

@@ -3,10 +3,12 @@ ghost use Rattle.std.specs.Io.KnownBytes.{Appends, Keeps};
 ghost use Rattle.std.specs.List.{flat_map};
 ghost use Rattle.std.specs.Option.{option_map};
 ghost use Rattle.std.specs.Prelude.{◌≡◌, ◌++◌, true, IfErr, IfOk, IfSome, MatchBool, OnOk, codes, string_bytes};
+ghost use Rattle.hp_base.specs.Text.{sizes};
 ghost use Rattle.hp_program.specs.Answers.{NotDone};
 ghost use Rattle.hp_script_commands.specs.Tabling.{AnsweredTable, IsCutShort, Tabulates, TabulatesPartly};
-ghost use Rattle.hp_script_commands.specs.Tabling.{row_line, schedules_text, table_text};
-ghost use Rattle.hp_text.specs.ScriptLines.{HasLinesFault};
+ghost use Rattle.hp_script_commands.specs.Tabling.{limits_of, row_line, schedules_of, schedules_text, table_text};
+ghost use Rattle.hp_search.specs.Endings.{AreAllEndings, AreWithin};
+ghost use Rattle.hp_text.specs.ScriptLines.{HasLinesFault, ReadsScript};
 ghost use Rattle.hp_text.specs.Streams.{TellsReads, TellsWrites};
 ghost use Rattle.hp_text.specs.Writing.{IsWriteFault, Wrote};
 
@@ -19,9 +21,10 @@ use hp_layers::Limits;
 use hp_program::{flush_gathered, flushed_answer, gather};
 use hp_search::{Budget, EndingRow, EndingRows, explore_every};
 use hp_summary::push_calls;
-use hp_text::{ReplayFault, Sink, Source, read_any_script, write_text};
+use hp_text::{ReplayFault, Script, Sink, Source, read_any_script, write_text};
 use std::alloc::{AllocError, Global};
 use std::io::Write;
+use std::thread::Threads;
 use std::time::Clock;
 
 /// Lays out how many schedules end so.
@@ -88,28 +91,21 @@ fn write_table<W: Sink>(
     Ok(true)
 }
 
-/// Reads a script, and writes the table of all endings of its schedules. Tells whether it did; if the limits ran out before, `cut` tells
-/// of how many turns the schedules are that were not looked at.
-fn tabulate_script<R: Source, W: Sink>(
-    rt: &impl Clock,
+/// Reads a script, and explores all its schedules.
+pub(crate) fn all_endings<R: Source>(
+    rt: &(impl Clock + Threads + Sync),
     alloc: Global,
     bounds: EveryBounds,
     reader: &mut R,
-    writer: &mut W,
-    cut: &mut Option<u32>,
     faults: &mut impl Report,
-) -> Result<bool, ReplayFault>
-    ensures ok { IfOk result (λ done. MatchBool done
-        (Tabulates bounds (R.remaining reader.old) (R.remaining reader.new) (W.contents writer.old) (W.contents writer.new))
-        (IsCutShort cut.new (R.remaining reader.old) (R.remaining reader.new) × Keeps (W.contents writer.old) (W.contents writer.new))) }
-    ensures err { IfErr result (λ fault. NotDone (TabulatesPartly bounds (R.remaining reader.old) (R.remaining reader.new)
-        (W.contents writer.old) (W.contents writer.new)) fault
-        (W.failures writer.old) (W.failures writer.new) (W.contents writer.old) (W.contents writer.new)) }
+) -> Result<(Script, EndingRows), ReplayFault>
+    ensures script { IfOk result (λ r. ReadsScript (R.remaining reader.old) (R.remaining reader.new) (sizes r.0.config) r.0.calls.items
+        r.0.waits.items) }
+    ensures endings { IfOk result (λ r. AreAllEndings (schedules_of bounds r.0) r.1) }
+    ensures within { IfOk result (λ r. AreWithin (schedules_of bounds r.0) (limits_of bounds) r.1) }
     ensures bad { IfErr result (λ fault. IfSome (R.remaining reader.old) (λ bytes. HasLinesFault bytes fault)) }
     ensures reads { TellsReads result (R.failures reader.old) (R.failures reader.new) }
-    ensures writes { OnOk result (W.failures writer.new ≡ W.failures writer.old) }
 {
-    *cut = None;
     let script = read_any_script(alloc, reader)?;
     tell_ignored(&script, faults);
     let budget = Budget {
@@ -121,9 +117,35 @@ fn tabulate_script<R: Source, W: Sink>(
         states: bounds.states as usize,
     };
     let mut progress = ProgressLine::new(rt, faults);
-    let every = explore_every(alloc, &script, budget, limits, &mut progress);
+    let every = explore_every(rt, alloc, &script, budget, limits, &mut progress);
     progress.end();
-    match every? {
+    Ok((script, every?))
+}
+
+/// Reads a script, and writes the table of all endings of its schedules. Tells whether it did; if the limits ran out before, `cut` tells
+/// of how many turns the schedules are that were not looked at.
+fn tabulate_script<R: Source, W: Sink>(
+    rt: &(impl Clock + Threads + Sync),
+    alloc: Global,
+    bounds: EveryBounds,
+    reader: &mut R,
+    writer: &mut W,
+    cut: &mut Option<u32>,
+    faults: &mut impl Report,
+) -> Result<bool, ReplayFault>
+    ensures ok { IfOk result (λ done. MatchBool done
+        (Tabulates bounds (R.remaining reader.old) (R.remaining reader.new) (W.contents writer.old) (W.contents writer.new))
+        (IsCutShort bounds cut.new (R.remaining reader.old) (R.remaining reader.new) × Keeps (W.contents writer.old) (W.contents writer.new))) }
+    ensures err { IfErr result (λ fault. NotDone (TabulatesPartly bounds (R.remaining reader.old) (R.remaining reader.new)
+        (W.contents writer.old) (W.contents writer.new)) fault
+        (W.failures writer.old) (W.failures writer.new) (W.contents writer.old) (W.contents writer.new)) }
+    ensures bad { IfErr result (λ fault. IfSome (R.remaining reader.old) (λ bytes. HasLinesFault bytes fault)) }
+    ensures reads { TellsReads result (R.failures reader.old) (R.failures reader.new) }
+    ensures writes { OnOk result (W.failures writer.new ≡ W.failures writer.old) }
+{
+    *cut = None;
+    let (_script, every) = all_endings(rt, alloc, bounds, reader, faults)?;
+    match every {
         EndingRows::Whole(rows) => write_table(alloc, rows.as_slice(), writer),
         EndingRows::Cut { turns } => {
             *cut = Some(turns);
@@ -135,7 +157,7 @@ fn tabulate_script<R: Source, W: Sink>(
 /// Tabulates all endings of a script's schedules. Answers whether the table was written. If it wasn't since the limits ran out, `cut` tells
 /// of how many turns the schedules are that were not looked at. Output is buffered.
 pub fn run_explore_every<R: Source, W: Write + Drop>(
-    rt: &impl Clock,
+    rt: &(impl Clock + Threads + Sync),
     alloc: Global,
     bounds: EveryBounds,
     reader: &mut R,

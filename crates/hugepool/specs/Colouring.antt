@@ -37,6 +37,7 @@ abbrev pub palette_of_script : ScriptRequest → Option Palette
 palette_of_script (script.Explore exploration) = Some Runs
 palette_of_script (script.Summarize survey) = Some Outcomes
 palette_of_script (script.Schedule scheduling) = None
+palette_of_script (script.ScheduleEvery choice) = None
 palette_of_script (script.Find search) = None
 palette_of_script (script.ExploreEvery bounds) = None
 palette_of_script (script.FindEvery search) = None

@@ -19,6 +19,7 @@ use Rattle.hp_pool_commands.specs.Stepping.{AnsweredStep}
 use Rattle.hp_pool_commands.specs.Working.{AnsweredTrace, AnsweredWork, status_of_work}
 use Rattle.hp_program.specs.Answers.{IfThere, status_of_runs, status_of_text}
 use Rattle.hp_program.specs.Endings.{DidReplay}
+use Rattle.hp_script_commands.specs.Choosing.{AnsweredChoice}
 use Rattle.hp_script_commands.specs.Hunting.{AnsweredFind, AnsweredMinimize, status_of_hunt}
 use Rattle.hp_script_commands.specs.Runs.{AnsweredExplore, AnsweredRace, AnsweredSchedule, AnsweredSummary}
 use Rattle.hp_script_commands.specs.Searching.{AnsweredEvery, status_of_every}
@@ -64,6 +65,8 @@ EndsScript (script.Summarize v) status from to old new before after =
     EndsWith status_of_runs status (λ answer. AnsweredSummary v answer from to old new before after)
 EndsScript (script.Schedule s) status from to old new before after =
     EndsWith status_of_text status (λ answer. AnsweredSchedule s answer from to old new before after)
+EndsScript (script.ScheduleEvery c) status from to old new before after =
+    (cut : Option ℕ) × EndsWith (status_of_every cut) status (λ answer. AnsweredChoice c cut answer from to old new before after)
 EndsScript (script.Find s) status from to old new before after =
     EndsWith status_of_hunt status (λ answer. AnsweredFind s answer from to old new before after)
 EndsScript (script.ExploreEvery b) status from to old new before after =

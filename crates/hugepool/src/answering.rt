@@ -16,7 +16,7 @@ use hp_pool_commands::{WorkWords, run_step, run_trace_work, run_work};
 use hp_program::run_replay;
 use hp_script_commands::{
     Report, run_explore, run_explore_every, run_find, run_find_every, run_minimize, run_race,
-    run_schedule, run_summarize,
+    run_schedule, run_schedule_every, run_summarize,
 };
 use hp_text::{ReplayFault, Source};
 use hp_trace_commands::{run_check, run_draw, run_explain, run_explain_json, run_format, run_page};
@@ -106,10 +106,15 @@ fn answer_script<H: Clock + Threads + Wait + Sync, R: Source, W: Write + Drop>(
         ScriptRequest::ExploreEvery(bounds) => {
             let mut cut = None;
             let (done, out) = run_explore_every(rt, alloc, bounds, reader, out, &mut cut, faults);
-            (stop_of_table(done, cut), out)
+            (stop_of_table(done, cut, Missed::Schedules), out)
         }
         ScriptRequest::Schedule(scheduling) => {
             text(run_schedule(alloc, scheduling, reader, out, faults))
+        }
+        ScriptRequest::ScheduleEvery(choice) => {
+            let mut cut = None;
+            let (done, out) = run_schedule_every(rt, alloc, choice, reader, out, &mut cut, faults);
+            (stop_of_table(done, cut, Missed::Row), out)
         }
         ScriptRequest::Find(search) => hunted(
             run_find(rt, alloc, &search, reader, out, faults),

@@ -44,6 +44,7 @@ fn palette_of_script(request: &ScriptRequest) -> Option<Palette>
         ScriptRequest::Race(Racing::Trace { .. })
         | ScriptRequest::ExploreEvery(_)
         | ScriptRequest::Schedule(_)
+        | ScriptRequest::ScheduleEvery(_)
         | ScriptRequest::Find(_)
         | ScriptRequest::FindEvery(_)
         | ScriptRequest::Minimize(_) => None,

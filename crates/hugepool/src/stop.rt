@@ -54,6 +54,9 @@ pub(crate) enum Missed {
     /// A schedule meets the conditions.
     #[error("hugepool: no schedule meets all conditions\n")]
     Schedules,
+    /// The table of all ways to end has a row of that number.
+    #[error("hugepool: explore --every prints no line of that number; they are counted from 0\n")]
+    Row,
     /// The trace meets the conditions.
     #[error("hugepool: the trace doesn't meet all conditions\n")]
     Trace,
@@ -114,13 +117,17 @@ pub(crate) fn stop_of_every(answer: Result<bool, ReplayFault>, cut: Option<u32>)
     }
 }
 
-/// Of a table of the endings of all schedules.
-pub(crate) fn stop_of_table(answer: Result<bool, ReplayFault>, cut: Option<u32>) -> Result<(), Stop>
+/// Of a table of the endings of all schedules, and of what is taken from it.
+pub(crate) fn stop_of_table(
+    answer: Result<bool, ReplayFault>,
+    cut: Option<u32>,
+    missed: Missed,
+) -> Result<(), Stop>
     ensures { status_at result ≡ status_of_every cut answer }
 {
     match (answer, cut) {
         (Ok(false), Some(turns)) => Err(Stop::CutTable(turns)),
-        (answer, _) => stop_of_hunt(answer, Missed::Schedules),
+        (answer, _) => stop_of_hunt(answer, missed),
     }
 }
 

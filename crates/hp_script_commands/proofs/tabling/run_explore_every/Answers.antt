@@ -11,7 +11,7 @@ use Rattle.hp_script_commands.proofs.tabling.run_explore_every.Goals as goal
 pub returns : goal.returns
 returns g c =
     let b : EveryBounds = c.args.bounds in
-    answered_hunt (Tabulates b) (TabulatesPartly b) (IsCutShort c.tabulate_script-done.new.cut) (OfScript (IsTableText b)) HasLinesFault
+    answered_hunt (Tabulates b) (TabulatesPartly b) (IsCutShort b c.tabulate_script-done.new.cut) (OfScript (IsTableText b)) HasLinesFault
     (table_passes b) _ _ _ _ _ _ _ _ _
     (failures_of c.tabulate_script-done.new.writer) c.tabulate_script-done.result c.flushed_answer.result c.flush_gathered-flushed.result.0
     c.in-Ok.ensures.contents c.in-Ok.ensures.failures c.tabulate_script-done.ensures.ok c.tabulate_script-done.ensures.err
