@@ -1,8 +1,8 @@
 #!/usr/bin/env bash
-# Searches all schedules of scripts for an answer that none gives, on one processor: scripts of
-# examples/, and three and four tasks that map one file and store into it. Prints the processor time,
-# the peak memory, and the states by the progress line, which is shown after half a second. Needs
-# cargo, python3 and taskset.
+# Searches all schedules of scripts for an answer that none gives, and then for all their endings, on
+# one processor: scripts of examples/, and three and four tasks that map one file and store into it.
+# Prints the processor time, the peak memory, and the states by the progress line, which is shown after
+# half a second. Needs cargo, python3 and taskset.
 set -euo pipefail
 source "$(dirname "${BASH_SOURCE[0]}")/needs.sh" python3 taskset
 PYTHONPATH=bench exec python3 -B - <<'P'
@@ -18,7 +18,9 @@ from measure import PROVED, peak_memory, prepare
 NAMES = ("truncate-against-fault", "two-files-one-quota", "store-against-map", "balloon-against-guest", "two-files-short-pool",
     "truncate-against-store")
 ONE = [shutil.which("taskset"), "-c", str(sorted(os.sched_getaffinity(0))[0])]
-SEARCH = [PROVED[0], "find", "--every", "--answer", "1:1=segv"]
+# what is searched, and the status
+FIND = [PROVED[0], "find", "--every", "--answer", "1:1=segv"], 1
+ENDINGS = [PROVED[0], "explore", "--every", "--states", "4000000"], 0
 
 
 def backends(tasks):
@@ -29,11 +31,11 @@ def backends(tasks):
     return "\n".join(lines) + "\n"
 
 
-def searched(path):
+def searched(search, wanted, path):
     """The seconds of processor time, and the states that the terminal showed last."""
     terminal, error = pty.openpty()
     streams = [(os.POSIX_SPAWN_OPEN, 0, path, os.O_RDONLY, 0), (os.POSIX_SPAWN_OPEN, 1, os.devnull, os.O_WRONLY, 0)]
-    words = [*ONE, *SEARCH]
+    words = [*ONE, *search]
     child = os.posix_spawn(words[0], words, os.environ, file_actions=[*streams, (os.POSIX_SPAWN_DUP2, error, 2)])
     os.close(error)
     shown = b""
@@ -45,7 +47,7 @@ def searched(path):
         pass
     os.close(terminal)
     _, status, used = os.wait4(child, 0)
-    if os.waitstatus_to_exitcode(status) != 1 or b"no schedule" not in shown:
+    if os.waitstatus_to_exitcode(status) != wanted:
         sys.exit(f"bench: the search of {path} failed")
     states = re.findall(rb"(\d+) states", shown)
     return used.ru_utime + used.ru_stime, int(states[-1]) if states else None
@@ -57,9 +59,11 @@ with tempfile.TemporaryDirectory() as folder:
     for tasks in (3, 4):
         path = scripts[f"{tasks} tasks that store into one file"] = Path(folder) / str(tasks)
         path.write_text(backends(tasks))
-    print(f"{'script':36} {'seconds':>7} {'KiB':>8} {'states':>9}")
+    print(f"{'script':36} {'':7} {'seconds':>7} {'KiB':>8} {'states':>9}")
     for name, path in scripts.items():
-        seconds, states = searched(path)
-        memory = peak_memory(SEARCH, path)
-        print(f"{name:36} {seconds:7.2f} {'-' if memory is None else memory:>8} {'-' if states is None else states:>9}")
+        for search, wanted in (FIND, ENDINGS):
+            seconds, states = searched(search, wanted, path)
+            memory = peak_memory(search, path)
+            told = ["-" if it is None else it for it in (memory, states)]
+            print(f"{name:36} {search[1]:7} {seconds:7.2f} {told[0]:>8} {told[1]:>9}", flush=True)
 P

@@ -1,5 +1,5 @@
 #!/usr/bin/env python3
-"""Compares `hugepool find --every` and `explore --every` with a search written apart (schedules.py), on small scripts.
+"""Compares `find`, `explore` and `schedule` with `--every` with a search written apart (schedules.py), on small scripts.
 
 usage: every.py [--scripts N] [--seed N] [--states N] [--program PATH]
 
@@ -8,7 +8,8 @@ kill. Asked is for each answer that some call may give, some that none gives, fi
 phases that meet, counts at answers, pairs of these, alternatives, and what is not to be found. Both have to say the same:
 whether a schedule meets them, and in how many events. The trace has to be a schedule of the search, and no random run
 that `find` finds may be shorter. Tables of endings have to be the same, with how many schedules end so and the fewest
-events; the numbers in answers are left out, since the search knows no words of pages. The status is 1 after a difference.
+events; the numbers in answers are left out, since the search knows no words of pages. The trace of each line of a table has
+to be a schedule of the search, with that ending and as many events. The status is 1 after a difference.
 """
 import argparse
 import random
@@ -18,7 +19,7 @@ from collections import Counter
 from itertools import product
 
 from compare import tested
-from schedules import asked_of, counted_of, endings, facts_of, holds, opening, read_script, search, turns
+from schedules import asked_of, counted_of, ending_at, endings, facts_of, holds, opening, read_script, search, turns, with_answer
 
 # denials and kills
 BUDGETS = ((0, 0), (1, 0), (0, 1))
@@ -169,21 +170,47 @@ def questions(dice, script, least):
     yield [(("answer", 1, 2, "done"),), (("final", f"resv={script.frames - 1}"),)]
 
 
+def followed(script, budget, events):
+    """The place to which these events lead as turns of one schedule, and the answers on the way; or None."""
+    place, ended = opening(script, *budget), ()
+    for event in events:
+        there = [(following, answer) for line, following, answer in turns(script, place) if line == event]
+        if len(there) != 1:
+            return None
+        ((place, answer),) = there
+        ended = with_answer(ended, answer)
+    return place, ended
+
+
 def table(program, text, budget):
-    """The program's endings, with the numbers in answers left out: how many schedules end so, and the fewest events."""
+    """The lines of the program's table, as endings with the numbers in answers left out: how many schedules end so, and the fewest events."""
     words = ["explore", "--every", *options(("--denials", "--kills"), budget)]
     done = subprocess.run([program, *words], input=text, capture_output=True, text=True)
     head, *lines = done.stdout.splitlines() or [""]
     if done.returncode != 0 or head != f"endings {len(lines)}":
         sys.exit(f"{' '.join(words)}: status {done.returncode}\n{done.stderr}{text}")
-    found = {}
     for line in lines:
         counts, *calls = [part.split() for part in line.split(" | ")]
         _, schedules, _, turns_made, _, free, _, resv, _, used = counts
         ending = (tuple((int(task), name, word) for task, name, word, *_ in calls), int(free), int(resv), int(used))
-        before, least = found.get(ending, (0, int(turns_made)))
-        found[ending] = (before + int(schedules), min(least, int(turns_made)))
-    return found
+        yield ending, int(schedules), int(turns_made)
+
+
+def wrong_trace(program, text, budget, rows):
+    """What is wrong with the trace of a line, or None: of the first, the last, and the number behind it."""
+    script = read_script(text)
+    for number in {0, len(rows) - 1, len(rows)}:
+        words = ["schedule", "--every", "--run", str(number), *options(("--denials", "--kills"), budget)]
+        done = subprocess.run([program, *words], input=text, capture_output=True, text=True)
+        if number == len(rows):
+            if (done.returncode, done.stdout) != (1, ""):
+                return f"{' '.join(words)}: status {done.returncode} behind the last line"
+            continue
+        events, (ending, _, least) = done.stdout.splitlines()[1:], rows[number]
+        there = followed(script, budget, events)
+        if done.returncode != 0 or len(events) != least or not there or ending_at(script, *there) != ending:
+            return f"{' '.join(words)}: status {done.returncode}, not {ending} in {least} events: {'; '.join(events)}"
+    return None
 
 
 def other_endings(program, text, budget, most):
@@ -191,7 +218,12 @@ def other_endings(program, text, budget, most):
     wanted = endings(read_script(text), budget, most)
     if wanted is None:
         return None, None
-    found = table(program, text, budget)
+    rows, found = list(table(program, text, budget)), {}
+    for ending, schedules, turns_made in rows:
+        before, least = found.get(ending, (0, turns_made))
+        found[ending] = (before + schedules, min(least, turns_made))
+    if what := wrong_trace(program, text, budget, rows):
+        return what, len(wanted)
     differs = [it for it in wanted.keys() | found.keys() if wanted.get(it) != found.get(it)]
     return differs and f"ending {differs[0]}: {wanted.get(differs[0])}, the program {found.get(differs[0])}", len(wanted)
 

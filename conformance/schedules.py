@@ -473,6 +473,14 @@ def with_answer(ended, answer):
     return tuple(sorted((*ended, (task, name, word)), key=lambda it: it[0]))
 
 
+def ending_at(script, frozen, ended):
+    """How a schedule ends that stands there with these answers: they and the counts; None where a turn may be made."""
+    if any(turns(script, frozen)):
+        return None
+    place = Place(frozen)
+    return ended, place.free, place.resv, place.used
+
+
 def endings(script, budget, most):
     """Of each way to end (answers and counts) how many schedules end so, and in how many events; None beyond so many states."""
     layer, depth, states, found = Counter({(opening(script, *budget), ()): 1}), 0, 0, {}
@@ -482,8 +490,7 @@ def endings(script, budget, most):
         for (frozen, ended), ways in layer.items():
             following = list(turns(script, frozen))
             if not following:
-                place = Place(frozen)
-                ending = (ended, place.free, place.resv, place.used)
+                ending = ending_at(script, frozen, ended)
                 schedules, least = found.get(ending, (0, depth))
                 found[ending] = (schedules + ways, least)
             for _, there, answer in following:
