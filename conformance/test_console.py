@@ -16,9 +16,10 @@ from contextlib import contextmanager
 from dataclasses import dataclass
 from pathlib import Path
 from types import SimpleNamespace
-from typing import Callable, Iterator
+from typing import Iterator
 from unittest.mock import patch
 
+import tally
 from compare import Script
 from kernel import __main__ as command_line
 from kernel import console, kernels, machine, report, testing
@@ -305,27 +306,12 @@ def faults_of_full_disks() -> Iterator[tuple[str, object]]:
     yield "a disk that is full where the report goes", (ran.returncode, ran.stderr.count("\n"), "No space left" in ran.stderr) == (2, 1, True) or ran
 
 
-def all_of(part: Callable[[], Iterator[tuple[str, object]]]) -> Iterator[tuple[str, object]]:
-    """What a part tries; one that can't go on is a fault."""
-    try:
-        yield from part()
-    except Exception as why:
-        yield part.__name__, f"{type(why).__name__}: {why}"
-
-
 def main() -> int:
     parts = (faults_of_reports, faults_of_ends, faults_of_other_ends, faults_of_silence)
     parts += (faults_of_news, faults_of_verdicts, faults_of_answers, faults_of_rests, faults_of_full_disks)
-    tried = [it for part in parts for it in all_of(part)]
-    wrong = [(what, found) for what, found in tried if found is not True]
-    print("".join(f"  {what}: {found}\n" for what, found in wrong), end="")
-    print(f"console: {len(tried) - len(wrong)} passed, {len(wrong)} failed")
-    return 1 if wrong else 0
+    return tally.ended("console", parts)
 
 
 if __name__ == "__main__":
-    try:
-        MACHINE = machine.machine(None)
-    except machine.Problem as why:
-        sys.exit(f"  {why}\nconsole: 0 passed, 1 failed")
+    MACHINE = tally.machine_of("console")
     sys.exit(main())

@@ -8,8 +8,8 @@ import tempfile
 from pathlib import Path
 from typing import Iterator, NamedTuple
 
+import tally
 from compare import TOP
-from kernel import machine
 
 KERNEL = TOP / "kernel"
 CHECK = TOP / "conformance" / "live" / "check.py"
@@ -137,17 +137,6 @@ def written() -> Iterator[tuple[str, object]]:
         yield "where nothing is wrong nothing is written", ran.status == 1 and not trace.exists() or ran
 
 
-def main() -> int:
-    tried = [it for part in (rows, bad, written) for it in part()]
-    wrong = [(what, found) for what, found in tried if found is not True]
-    print("".join(f"  {what}: {found}\n" for what, found in wrong), end="")
-    print(f"exploring: {len(tried) - len(wrong)} passed, {len(wrong)} failed")
-    return 1 if wrong else 0
-
-
 if __name__ == "__main__":
-    try:
-        PROGRAM = machine.machine(None).program
-    except machine.Problem as why:
-        sys.exit(f"  {why}\nexploring: 0 passed, 1 failed")
-    sys.exit(main())
+    PROGRAM = tally.machine_of("exploring").program
+    sys.exit(tally.ended("exploring", (rows, bad, written)))

@@ -18,9 +18,10 @@ from pathlib import Path
 from typing import Iterator
 
 import forced
+import tally
 import test_console
 from compare import Script
-from kernel import bundle, in_c, ktap, machine, report, suites, testing
+from kernel import bundle, in_c, ktap, report, suites, testing
 from kernel.differences import Comparison
 from kernel.known import known_issues
 
@@ -161,16 +162,9 @@ def faults_of_bundles() -> Iterator[tuple[str, object]]:
 
 def main() -> int:
     parts = (faults_of_scripts, faults_of_answers, faults_of_vain, faults_of_endings, faults_of_ktap, faults_of_c, faults_of_bundles)
-    tried = [it for part in parts for it in test_console.all_of(part)]
-    faults = [(what, found) for what, found in tried if found is not True]
-    print("".join(f"  {what}: {found}\n" for what, found in faults), end="")
-    print(f"forced: {len(tried) - len(faults)} passed, {len(faults)} failed")
-    return 1 if faults else 0
+    return tally.ended("forced", parts)
 
 
 if __name__ == "__main__":
-    try:
-        test_console.MACHINE = machine.machine(None)
-    except machine.Problem as why:
-        sys.exit(f"  {why}\nforced: 0 passed, 1 failed")
+    test_console.MACHINE = tally.machine_of("forced")
     sys.exit(main())

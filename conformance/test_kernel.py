@@ -23,6 +23,7 @@ from unittest.mock import patch
 import compare
 import packages
 import races
+import tally
 from compare import Script
 from kernel import kernels, machine, minimize, report, reproduce, suites, testing
 from kernel.differences import Comparison, Result
@@ -597,20 +598,13 @@ def decided() -> list[str]:
 
 
 def main() -> int:
-    parts = (faults_of_known, faults_of_files, faults_of_reading, faults_of_report, faults_of_commands, faults_of_recorded, faults_of_document)
-    parts += (faults_of_lacks, faults_of_reproducing)
-    parts += (faults_of_saying, faults_of_interrupts, faults_of_races, faults_of_covering, faults_of_whole, faults_of_basis, faults_of_again, faults_of_boots, faults_of_minimizing)
-    tried = [it for part in parts for it in part()]
-    wrong = [(what, found) for what, found in tried if found is not True]
-    print("".join(f"  {what}: {found}\n" for what, found in wrong), end="")
-    print(f"kernel: {len(tried) - len(wrong)} passed, {len(wrong)} failed")
-    return 1 if wrong else 0
+    parts = (faults_of_known, faults_of_files, faults_of_reading, faults_of_report, faults_of_commands, faults_of_recorded)
+    parts += (faults_of_document, faults_of_lacks, faults_of_reproducing, faults_of_saying, faults_of_interrupts, faults_of_races)
+    parts += (faults_of_covering, faults_of_whole, faults_of_basis, faults_of_again, faults_of_boots, faults_of_minimizing)
+    return tally.ended("kernel", parts)
 
 
 if __name__ == "__main__":
-    try:
-        MACHINE = machine.machine(None)
-    except machine.Problem as why:
-        sys.exit(f"  {why}\nkernel: 0 passed, 1 failed")
+    MACHINE = tally.machine_of("kernel")
     PROGRAM = MACHINE.program
     sys.exit(main())

@@ -13,6 +13,7 @@ from functools import cache
 from pathlib import Path
 from typing import Callable, Iterator
 
+import tally
 from compare import Program, Script, scripts
 from kernel import machine, report, schedules
 from kernel.differences import Comparison
@@ -184,16 +185,9 @@ def faults_of_recordings() -> Iterator[tuple[str, object]]:
 
 def main() -> int:
     parts = (faults_of_words, faults_of_peers, faults_of_wrong, faults_of_orders, faults_of_recordings)
-    tried = [it for part in parts for it in part()]
-    wrong = [(what, found) for what, found in tried if found is not True]
-    print("".join(f"  {what}: {found}\n" for what, found in wrong), end="")
-    print(f"peers: {len(tried) - len(wrong)} passed, {len(wrong)} failed; {len(peer_scripts())} scripts")
-    return 1 if wrong else 0
+    return tally.ended("peers", parts, f"; {len(peer_scripts())} scripts")
 
 
 if __name__ == "__main__":
-    try:
-        PROGRAM = machine.machine(None).program
-    except machine.Problem as why:
-        sys.exit(f"  {why}\npeers: 0 passed, 1 failed")
+    PROGRAM = tally.machine_of("peers").program
     sys.exit(main())

@@ -13,6 +13,7 @@ from dataclasses import dataclass, field
 from pathlib import Path
 from typing import Iterator
 
+import tally
 from compare import Script, scripts
 from kernel import machine
 from kernel.differences import Comparison, Result
@@ -77,17 +78,6 @@ def faults() -> Iterator[tuple[str, object]]:
     yield "all files are read", files == set(RECORDED.iterdir())
 
 
-def main() -> int:
-    tried = list(faults())
-    wrong = [(what, found) for what, found in tried if found is not True]
-    print("".join(f"  {what}: {found}\n" for what, found in wrong), end="")
-    print(f"versions: {len(tried) - len(wrong)} passed, {len(wrong)} failed")
-    return 1 if wrong else 0
-
-
 if __name__ == "__main__":
-    try:
-        PROGRAM = machine.machine(None).program
-        sys.exit(main())
-    except machine.Problem as why:
-        sys.exit(f"  {why}\nversions: 0 passed, 1 failed")
+    PROGRAM = tally.machine_of("versions").program
+    sys.exit(tally.ended("versions", (faults,)))
