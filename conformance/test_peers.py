@@ -7,16 +7,20 @@ with one at least.
 """
 from __future__ import annotations
 
+import io
 import re
 import sys
+from contextlib import redirect_stdout
 from functools import cache
 from pathlib import Path
+from types import SimpleNamespace
 from typing import Callable, Iterator
 
 import tally
 from compare import Program, Script, scripts
+from kernel import __main__ as command_line
 from kernel import machine, report, schedules
-from kernel.differences import Comparison
+from kernel.differences import BrokenAssertion, Comparison, Result
 from kernel.known import known_issues
 from kernel.peers import Assertion, Broken, assertions, broken, heads, peer_scripts
 from kernel.suites import PEERS, call_of
@@ -183,8 +187,39 @@ def faults_of_recordings() -> Iterator[tuple[str, object]]:
     yield "all suites as one have it", report.total([found, found]).new == 2
 
 
+def broken_ones(script: str, *texts: str) -> Result:
+    """A script whose calls, from the first on, break assertions: each text is `CALL: FIELD EXPECTED, seen SEEN`."""
+    found = []
+    for number, text in enumerate(texts, 1):
+        call, field, expected, seen = re.fullmatch(r"(.+): (\w+) (.+), seen (.*)", text).groups()
+        found.append(BrokenAssertion(Broken(script, number, f"begin 1 {call}", Assertion(field, expected), seen), None))
+    return Result(script, len(texts), len(texts), broken=found)
+
+
+LOW, HIGH = "punch 0 0 1: free 3, seen 2", "punch 0 0 1: free 3, seen 4"
+REFUSED = "alloc 0 0 1: answer done, seen noframe"
+
+
+def faults_of_groups() -> Iterator[tuple[str, object]]:
+    """That 70 assertions of one cause are one line, that other causes keep theirs, and that the same cause is told once."""
+    found = Tested(PEERS, "7", [broken_ones("a", LOW, *[REFUSED] * 39), broken_ones("b", *["punch 1 2 3: free 9, seen 5"] * 30)])
+    lines = [f"new: a, call 1: begin 1 {LOW.replace(': ', ': the peer asserts ')} (and 69 more assertions like it or behind it, in 2 scripts)"]
+    yield "70 assertions are one line", report.news([found]) == lines or report.news([found])
+    yield "they are counted as scripts", found.new == 2 or found.new
+    yield "JSON has each", report.json_text([found], "x").count("the peer asserts") == 70
+    others = [broken_ones("c", HIGH), broken_ones("d", REFUSED), broken_ones("e", "map 0 0 1: free 3, seen 2"), broken_ones("f", "punch 0 0 1: free not 3, seen 3")]
+    both = Tested(PEERS, "7", [*found.results, *others])
+    yield "another side, field, call or word is another cause", len(report.news([both])) == 5 or report.news([both])
+    run, said = command_line.Running(SimpleNamespace(first=False, bisect=False), "x", 1), io.StringIO()
+    with redirect_stdout(said):
+        run.tell(found)
+        run.tell(both)
+    begins = [it[:6] for it in said.getvalue().splitlines()]
+    yield "a cause is told once in a run", begins == [f"new: {it}" for it in "acdef"] or begins
+
+
 def main() -> int:
-    parts = (faults_of_words, faults_of_peers, faults_of_wrong, faults_of_orders, faults_of_recordings)
+    parts = (faults_of_words, faults_of_peers, faults_of_wrong, faults_of_orders, faults_of_recordings, faults_of_groups)
     return tally.ended("peers", parts, f"; {len(peer_scripts())} scripts")
 
 

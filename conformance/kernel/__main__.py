@@ -20,7 +20,7 @@ from kernel.kernels import Emulation, Kernel, say
 from kernel.known import FOLDER, Known, known_issues
 from kernel.machine import machine
 from kernel.minimize import Minimizer, minimized
-from kernel.peers import peer_scripts
+from kernel.peers import Cause, peer_scripts
 from kernel.problem import Problem
 from kernel.testing import Tested, Work, tested
 
@@ -185,6 +185,8 @@ class Running:
     suites: int
     found: list[Tested] = field(default_factory=list)
     new: int = 0
+    # by which peers' assertions were told to be broken
+    causes: frozenset[Cause] = frozenset()
 
     @property
     def is_first(self) -> bool:
@@ -193,8 +195,9 @@ class Running:
     def tell(self, one: Tested) -> None:
         """Prints what is new as soon as it is seen, the first differences in full."""
         self.new += one.new
-        if self.new <= report.MOST:
-            print("\n".join(report.news([one])), flush=True)
+        if self.new <= report.MOST and (lines := report.news([one], self.causes)):
+            print("\n".join(lines), flush=True)
+            self.causes |= report.new_causes([one])
 
     def report(self) -> None:
         """Prints what the suites showed that ran, even if a later one couldn't."""

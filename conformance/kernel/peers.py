@@ -53,6 +53,51 @@ class Broken:
         return f"{self.script}, call {self.number}: {self.call}: the peer asserts {expected}, seen {self.seen or 'nothing'}"
 
 
+# a cause: the kind of the call, the field, and how what was seen differs
+Cause = tuple[str, str, str]
+
+
+def cause_of(it: Broken) -> Cause:
+    """What an assertion that doesn't hold shows: two with the same cause are told as one."""
+    expected, seen = it.assertion.value, it.seen
+    if it.assertion.field == "answer":
+        how = f"{seen.split(' ')[0]} for {expected.split(' ')[0]}"
+    elif expected.startswith("not ") or not seen.lstrip("-").isdecimal():
+        how = seen and "it is what it must not be"
+    else:
+        how = "above" if int(seen) > int(expected) else "below"
+    return it.call.split()[2], it.assertion.field, how
+
+
+@dataclass(frozen=True)
+class Group:
+    """Assertions of one cause that don't hold: the first, how many there are, and of how many scripts."""
+
+    first: Broken
+    assertions: int
+    scripts: int
+
+    @property
+    def cause(self) -> Cause:
+        return cause_of(self.first)
+
+    def __str__(self) -> str:
+        more = self.assertions - 1
+        scripts = f", in {self.scripts} scripts" if self.scripts > 1 else ""
+        return f"{self.first}" + (f" (and {more} more assertion{'s' if more > 1 else ''} like it or behind it{scripts})" if more else "")
+
+
+def grouped(found: list[Broken]) -> list[Group]:
+    """Assertions that don't hold, by cause. What breaks in a script behind its first one is put down to that one's cause."""
+    scripts: dict[str, list[Broken]] = {}
+    for it in found:
+        scripts.setdefault(it.script, []).append(it)
+    causes: dict[Cause, list[list[Broken]]] = {}
+    for some in scripts.values():
+        causes.setdefault(cause_of(some[0]), []).append(some)
+    return [Group(them[0][0], sum(map(len, them)), len(them)) for them in causes.values()]
+
+
 def assertions(line: str) -> list[Assertion]:
     """What stands behind the ` = ` of a line."""
     _, has, text = line.partition(" = ")

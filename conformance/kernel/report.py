@@ -10,7 +10,7 @@ from xml.etree import ElementTree
 from compare import Told
 from kernel.differences import Difference
 from kernel.known import Known
-from kernel.peers import Broken
+from kernel.peers import Broken, Cause, grouped
 from kernel.problem import Problem
 from kernel.suites import NOWHERE, lacks
 from kernel.testing import Stopped, Tested, WrongCount
@@ -138,6 +138,11 @@ def new_broken(all_of_them: list[Tested]) -> list[Broken]:
     return [it.broken for one in all_of_them for result in one.results for it in result.broken if it.known is None]
 
 
+def new_causes(all_of_them: list[Tested]) -> frozenset[Cause]:
+    """The causes by which peers' assertions are broken, each of which is told once."""
+    return frozenset(it.cause for it in grouped(new_broken(all_of_them)))
+
+
 def known_of(all_of_them: list[Tested]) -> list[tuple[Known, int]]:
     """The known issues that were seen, each with the number of scripts."""
     results = (it for one in all_of_them for it in one.results)
@@ -180,14 +185,14 @@ def wrong_text(it: WrongCount) -> list[str]:
     return [*lines, *(f"    {line}" for line in (f"script {it.name}", it.script.header, *it.script.lines, "end"))] if it.script else lines
 
 
-def news(all_of_them: list[Tested]) -> list[str]:
-    """All that no known issue explains, in full."""
+def news(all_of_them: list[Tested], told: frozenset[Cause] = frozenset()) -> list[str]:
+    """All that no known issue explains, in full, but peers' assertions that are broken by a cause told before."""
     lines, new = [], new_differences(all_of_them)
     for suite, it in ((one.name, it) for one in all_of_them for it in one.stopped):
         lines += ["new:", *stopped_text(suite, it), ""]
     for it in new_wrong_counts(all_of_them):
         lines += ["new:", *wrong_text(it), ""]
-    lines += [f"new: {it}" for it in new_broken(all_of_them)]
+    lines += [f"new: {it}" for it in grouped(new_broken(all_of_them)) if it.cause not in told]
     for it in new[:MOST]:
         lines += ["new:", *difference_text(it), ""]
     return lines + ([f"{len(new) - MOST} more new differences: --json FILE has them all", ""] if len(new) > MOST else [])
@@ -197,7 +202,7 @@ def brief_news(all_of_them: list[Tested]) -> list[str]:
     """The same in a line each, where it was printed in full before."""
     lines = [f"  suite {one.name}: {it.ended.kind}: {it.ended.what}" for one in all_of_them for it in one.stopped]
     lines += [f"  {it.name}: wrong counts" for it in new_wrong_counts(all_of_them)]
-    lines += [f"  {it}" for it in new_broken(all_of_them)]
+    lines += [f"  {it}" for it in grouped(new_broken(all_of_them))]
     lines += [f"  {it.script.name}, call {it.number}: {it.seen.call}: {', '.join(it.seen.fields())}" for it in new_differences(all_of_them)]
     more = [f"  {len(lines) - MOST} more: --json FILE has them all"] if len(lines) > MOST else []
     return ["new, printed in full above:", *lines[:MOST], *more, ""] if lines else []
