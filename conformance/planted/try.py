@@ -3,14 +3,14 @@
 
 usage: try.py SOURCE [--jobs N] [--only NAME ..] [--table FILE] [--check]
 
-SOURCE is a tree of Linux 6.1 as Debian's package linux-source-6.1 has it. Each patch beside this program is applied to
-it, the kernel is built with the configuration of `./kernel test --config`, and tested by `./kernel test --first`; then the
+SOURCE is a tree of Linux as Debian's package linux-source-6.1, or -7.3, has it. Each patch of that version's folder is
+applied to it, the kernel is built with the configuration of `./kernel test --config`, and tested by `./kernel test --first`; then the
 patch is taken out again. First the kernel is tested as it came, which has to show nothing new. The tree keeps what was
 built, so a kernel after the first takes a minute.
 
   --jobs N      processes that build (2)
   --only NAME   these patches alone, without the kernel as it came
-  --table FILE  where the table is written (the part of it between the two marks, if the file has them)
+  --table FILE  where the table is written (the part of it between the version's two marks, if the file has them)
   --words ..    further words for ./kernel test, as the last option
   --check       only looks whether each patch applies
 Status: 0 all were found; 1 some weren't, or the kernel as it came differs; 2 it could not run.
@@ -33,7 +33,8 @@ TOP = FOLDER.parent.parent
 CONFIG = TOP / "conformance" / "kernel" / "config"
 # the suites that are tried, those that take least time first
 SUITES = ("fixed", "quota", "resize", "held", "denied", "peers", "random", "races")
-BEGIN, END = "<!-- planted: begin -->", "<!-- planted: end -->"
+# what stands around the table of a version
+BEGIN, END = "<!-- planted {}: begin -->", "<!-- planted {}: end -->"
 # a kernel test that isn't done by then is ended, in seconds
 MOST_SECONDS = 1500
 
@@ -67,8 +68,19 @@ def read_planted(path: Path) -> Planted:
     return Planted(path.stem, head["Function"], head["Planted"], path)
 
 
-def all_planted() -> list[Planted]:
-    return [read_planted(path) for path in sorted(FOLDER.glob("*.patch"))]
+def version_of(tree: Path) -> str:
+    """The version of a tree, of which some have a folder of patches here."""
+    makefile = tree / "Makefile"
+    if not (tree / "mm" / "hugetlb.c").is_file() or not makefile.is_file():
+        raise CannotRun(f"{tree} is no tree of Linux")
+    return ".".join(re.findall(r"(?m)^(?:VERSION|PATCHLEVEL) = (\d+)$", makefile.read_text(encoding="utf-8")))
+
+
+def all_planted(tree: Path) -> list[Planted]:
+    """The patches for a tree's version."""
+    if not (found := sorted((FOLDER / version_of(tree)).glob("*.patch"))):
+        raise CannotRun(f"there are no patches for Linux {version_of(tree)}")
+    return [read_planted(path) for path in found]
 
 
 def run(*words: str | Path, folder: Path) -> None:
@@ -114,7 +126,10 @@ def tested(image: Path, words: list[str]) -> Found:
     with tempfile.TemporaryDirectory(prefix="planted-") as room:
         began, told = time.monotonic(), Path(room) / "told"
         command = [TOP / "kernel", "test", "--kernel", image, "--first", "--json", told, *words]
-        done = subprocess.run(command, capture_output=True, text=True, check=False, timeout=MOST_SECONDS)
+        try:
+            done = subprocess.run(command, capture_output=True, text=True, check=False, timeout=MOST_SECONDS)
+        except subprocess.TimeoutExpired:
+            return Found(2, "", f"not done in {MOST_SECONDS} s", time.monotonic() - began)
         first = re.search(r"(?m)^new:[ \n]*(.*)$", done.stdout)
         line = first[1] if first else done.stderr.strip().splitlines()[-1]
         return Found(done.returncode, suite_of(told), line, time.monotonic() - began)
@@ -139,18 +154,18 @@ def table(rows: list[str]) -> str:
     return "\n".join([*head, *rows])
 
 
-def write_table(path: Path, text: str) -> None:
-    """Writes a table to a file, between the marks if it has them."""
+def write_table(path: Path, text: str, version: str) -> None:
+    """Writes a version's table to a file, between its marks if the file has them."""
     old = path.read_text(encoding="utf-8") if path.is_file() else ""
-    before, begin, rest = old.partition(BEGIN)
-    _, end, behind = rest.partition(END)
-    path.write_text(f"{before}{BEGIN}\n\n{text}\n\n{END}{behind}" if begin and end else f"{text}\n", encoding="utf-8")
+    before, begin, rest = old.partition(BEGIN.format(version))
+    _, end, behind = rest.partition(END.format(version))
+    path.write_text(f"{before}{begin}\n\n{text}\n\n{end}{behind}" if begin and end else f"{text}\n", encoding="utf-8")
 
 
 def check(tree: Path) -> int:
     """Whether each patch applies to the tree as it is."""
     passed, failed = 0, []
-    for it in all_planted():
+    for it in all_planted(tree):
         try:
             patch(tree, it, "--dry-run")
             passed += 1
@@ -163,7 +178,7 @@ def check(tree: Path) -> int:
 def try_all(options: argparse.Namespace) -> int:
     tree, rows, missed = options.source, [], 0
     configure(tree)
-    some = [it for it in all_planted() if not options.only or it.name in options.only]
+    some = [it for it in all_planted(tree) if not options.only or it.name in options.only]
     if not options.only:
         clean = tested(built(tree, options.jobs), [it for it in options.words if it != "--first"])
         print(f"as it came: status {clean.status}, {clean.seconds:.0f} s: {clean.first}", flush=True)
@@ -174,7 +189,7 @@ def try_all(options: argparse.Namespace) -> int:
         print(f"{rows[-1]} {found.first}", flush=True)
         missed += found.status != 1
     if options.table:
-        write_table(options.table, table(rows))
+        write_table(options.table, table(rows), version_of(tree))
     print(f"planted: {len(rows) - missed} passed, {missed} failed")
     return 1 if missed else 0
 
@@ -190,8 +205,6 @@ def main() -> int:
     parser.add_argument("--words", nargs=argparse.REMAINDER, default=["--suites", *SUITES])
     options = parser.parse_args()
     try:
-        if not (options.source / "mm" / "hugetlb.c").is_file():
-            raise CannotRun(f"{options.source} is no tree of Linux")
         return check(options.source) if options.check else try_all(options)
     except CannotRun as why:
         print(f"try.py: {why}", file=sys.stderr)
