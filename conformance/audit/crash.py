@@ -10,6 +10,7 @@ Status: 0 dumped; 2 it could not.
 from __future__ import annotations
 
 import argparse
+import gzip
 import re
 import shutil
 import subprocess
@@ -29,7 +30,7 @@ mount -t proc proc /proc; mount -t devtmpfs dev /dev; mount -t tmpfs -o size=100
 exec > /dev/ttyS0 2>&1
 makedumpfile --message-level 5 {format} -d {level} /proc/vmcore /tmp/dump || {{ echo "scene: makedumpfile failed"; sleep 1000000; }}
 stty -F /dev/ttyS1 115200 raw -echo
-cat /tmp/dump > /dev/ttyS1
+{pack} /tmp/dump > /dev/ttyS1
 echo "crash: wrote $(stat -c %s /tmp/dump) bytes"; sleep 1000000
 """
 JOB = """{job} > /said 2>&1 &
@@ -47,7 +48,9 @@ def second(options: argparse.Namespace, room: Path) -> Path:
     add_program(root, Path("/usr/bin/makedumpfile"), options.files)
     add_program(tree, Path(shutil.which("kexec") or "/sbin/kexec"))
     (root / "bin" / "sh").symlink_to("busybox")
-    (root / "init").write_text(INIT.format(format="-E" if options.elf else "-c", level=options.level), encoding="utf-8")
+    # (an ELF file isn't compressed, and the line is slow)
+    form, pack = ("-E", "gzip -1 -c") if options.elf else ("-c", "cat")
+    (root / "init").write_text(INIT.format(format=form, level=options.level, pack=pack), encoding="utf-8")
     (root / "init").chmod(0o755)
     (tree / "crash").mkdir()
     archived(root, tree / "crash" / "initramfs")
@@ -72,11 +75,12 @@ def main() -> int:
             options.memory, options.until = "1536" if options.memory == "768" else options.memory, "crash: wrote"
             with running(options, room):
                 wrote = int(re.search(r"crash: wrote (\d+) bytes", (room / "console").read_text(errors="replace"))[1])
-                shutil.copy(room / "dump", options.dump)
+                with (gzip.open if options.elf else open)(room / "dump", "rb") as came_by_line, open(options.dump, "wb") as to:
+                    shutil.copyfileobj(came_by_line, to)
             if (came := Path(options.dump).stat().st_size) != wrote:
                 raise Problem(f"{wrote} bytes were written, and {came} came")
             print(f"crash: {Path(options.dump).stat().st_size >> 20} MiB")
-    except (Problem, OSError, subprocess.CalledProcessError) as why:
+    except (Problem, OSError, EOFError, subprocess.CalledProcessError) as why:
         print(f"crash: {why}", file=sys.stderr)
         return 2
     return 0

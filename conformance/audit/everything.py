@@ -37,8 +37,8 @@ from kernel.audit.opened import DEBIAN_PYTHON
 from kernel.problem import Problem
 
 
-# an audit of the sparse dump has to take less, in seconds
-MOST = 120.0
+# an audit of the sparse dump has to take less, in seconds; and a crashed kernel has to have dumped itself by then, also beside other work
+MOST, DUMPS = 120.0, 3600
 # of two kernels: which calls run while one is dumped, how often, and which clauses its known issues touch
 DURING = {
     "6.1": (("calls-random.txt", 25, ()), ("calls-resize.txt", 12, ())),
@@ -164,7 +164,7 @@ def try_crash(work: Work, tried: Tried) -> None:
         # (libkdumpfile doesn't know a release without a third number, in whose stead an ELF file is written)
         more = [] if re.match(r"\d+\.\d+\.\d+", it.release) else ["--elf"]
         files = ["--files", work.debians[-1]] if work.debians else []
-        crash = [sys.executable, HERE / "crash.py", "--kernel", it.image, "--dump", dump, "--seconds", "1500"]
+        crash = [sys.executable, HERE / "crash.py", "--kernel", it.image, "--dump", dump, "--seconds", str(DUMPS)]
         tried.run(f"{it.release} crashes", [*crash, *more, *files])
         tried.run(f"{it.release} kdump's dump", audit(dump, it.symbols))
         tried.run(f"{it.release} plants, kdump", plants_of(dump, it.symbols))
