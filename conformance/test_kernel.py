@@ -25,7 +25,7 @@ import packages
 import races
 import tally
 from compare import Script
-from kernel import kernels, machine, minimize, report, reproduce, suites, testing
+from kernel import kernels, machine, minimize, report, reproduce, shrinking, suites, testing
 from kernel.differences import Comparison, Result
 from kernel.known import Known, explains, faults, known_issues, release, translated
 from kernel.minimize import Minimizer, minimized
@@ -444,11 +444,11 @@ def faults_of_minimizing() -> Iterator[tuple[str, object]]:
     except minimize.Problem:
         yield "a known leak is not minimized", True
     line = "begin 1 alloc 0 2 3"
-    smaller = set(minimize.with_smaller_numbers(line))
+    smaller = set(shrinking.with_smaller_numbers(line))
     yield "smaller numbers", "begin 1 alloc 0 2 1" in smaller and line not in smaller
     four = ["begin 1 mapn 0 0 1", "begin 1 mapn 0 1 2", "begin 1 map 0 0 2", "begin 1 load 2"]
     script, three = Script("a", "pool 2 1 1 1 3", four), ("begin 1 mapn 0 1 2", "begin 1 map 0 0 2", "begin 1 load 1")
-    near, far = ({tuple(it.lines) for it in some(script)} for some in (minimize.neighbours, minimize.farther))
+    near, far = ({tuple(it.lines) for it in some(script)} for some in (shrinking.neighbours, minimize.farther))
     yield "two changes at once", three in far and three not in near
     yield "a suite has its scripts", len(suites.scripts_of(suites.SUITES["fixed"])) == 33
 

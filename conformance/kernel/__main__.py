@@ -16,6 +16,7 @@ from typing import NoReturn
 import generate
 from kernel import bundle, exploring, in_c, kernels, ktap, report, reproduce, suites
 from kernel.audit import command as audit
+from kernel.endings import Wrong
 from kernel.kernels import Emulation, Kernel, say
 from kernel.known import FOLDER, Known, known_issues
 from kernel.machine import machine
@@ -236,10 +237,10 @@ def run_minimize(options: argparse.Namespace) -> int:
         raise Problem(f"{options.script} has no script{f' {options.name}' if options.name else ''}")
     minimizer = Minimizer(kernel_of(options), machine(options.program), issues)
     found = minimized(minimizer, some, lambda it: it.known is None)
-    print("\n".join(report.difference_text(found)))
+    print("\n".join(found.text() if isinstance(found, Wrong) else report.difference_text(found)))
     if options.c is not None:
         report.write(str(options.c), in_c.program(found))
-    print(f"kernel: {found.number} calls, after {minimizer.boots} boots and {time.monotonic() - began:.0f} s")
+    print(f"kernel: {len(found.script.lines)} calls, after {minimizer.boots} boots and {time.monotonic() - began:.0f} s")
     return 1
 
 

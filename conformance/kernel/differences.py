@@ -24,6 +24,10 @@ class Difference:
         """The number of the call in its script; the first is 1."""
         return len(self.script.lines)
 
+    @property
+    def words(self) -> str:
+        return f"differs at call {self.number}: {self.seen.call}: {', '.join(self.seen.fields())}"
+
 
 @dataclass(frozen=True)
 class BrokenAssertion:

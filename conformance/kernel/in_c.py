@@ -5,6 +5,7 @@ from dataclasses import dataclass, field
 from pathlib import Path
 
 from kernel.differences import Difference
+from kernel.endings import Wrong
 from kernel.problem import Problem
 
 PARTS = Path(__file__).with_name("reproducer.c")
@@ -65,8 +66,10 @@ def call_text(tasks: Tasks, call: str, answer: str) -> str:
     raise Problem(f"'{call}' has no reproducer in C")
 
 
-def program(it: Difference) -> str:
+def program(it: Difference | Wrong) -> str:
     """The program of a difference."""
+    if isinstance(it, Wrong):
+        raise Problem("a script whose calls overlap, or are denied memory, has no reproducer in C")
     _, frames, files, _, _, *quota = it.script.header.split()
     answers = [line.split(" = ", 1)[1].split(" | ")[0] for line in it.seen.lines] + [it.seen.kernel.answer]
     tasks, machine = Tasks(), it.seen.machine
