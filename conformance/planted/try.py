@@ -95,6 +95,12 @@ def patch(tree: Path, it: Planted, *words: str) -> None:
     run("patch", "--strip=1", "--silent", "--force", *words, f"--input={it.path}", folder=tree)
 
 
+def is_met(wanted: str, has: set[str]) -> bool:
+    """Whether a configuration has a line that is wanted. What is to be left out, a version may not know at all."""
+    left_out = re.fullmatch(r"# (CONFIG_\w+) is not set", wanted)
+    return f"{left_out[1]}=y" not in has if left_out else wanted in has
+
+
 def configure(tree: Path) -> None:
     """Configures a tree, unless it is configured so already."""
     wanted = CONFIG.read_text(encoding="utf-8")
@@ -106,7 +112,7 @@ def configure(tree: Path) -> None:
         file.write(wanted)
     run("make", "--silent", "olddefconfig", folder=tree)
     has = set((tree / ".config").read_text(encoding="utf-8").splitlines())
-    if lost := [line for line in wanted.splitlines() if line not in has]:
+    if lost := [line for line in wanted.splitlines() if not is_met(line, has)]:
         raise CannotRun(f"the tree can't be configured with {lost[0]}")
     mark.write_text(wanted, encoding="utf-8")
 
