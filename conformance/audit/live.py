@@ -69,7 +69,7 @@ def shown(package: str, is_verbose: bool) -> tuple[int, int]:
     with tempfile.TemporaryDirectory(prefix="live-") as name:
         room = Path(name)
         words = scene_parser().parse_args(["--kernel", str(image), "--job", job(symbols), "--tree", str(guest(symbols, room)), "--memory", "4096",
-                                           "--until", "live: all ended", "--seconds", "1200", *(["--verbose"] if is_verbose else [])])
+                                           "--until", "live: all ended", "--seconds", "3600", *(["--verbose"] if is_verbose else [])])
         with running(words, room):
             console = (room / "console").read_text(errors="replace").replace("\r", "")
     passed = 0

@@ -37,7 +37,7 @@ echo "scene: begun"
 echo "scene: the job ended"; sleep 1000000
 """
 
-# a kernel that hasn't begun the job by then hangs, in seconds
+# a kernel that hasn't begun the job by then hangs, in seconds, unless a fifth of the time that it may take is longer
 BOOT = 150.0
 
 
@@ -108,7 +108,7 @@ def booted(options: argparse.Namespace, room: Path) -> subprocess.Popen[bytes]:
         console.write_bytes(b"")
         machine = subprocess.Popen(command(options, initramfs, console, room / "monitor"), stdin=subprocess.DEVNULL)
         try:
-            wait_for("scene: begun", console, machine, BOOT)
+            wait_for("scene: begun", console, machine, max(BOOT, options.seconds / 5))
             return machine
         except Problem as why:
             machine.kill()
