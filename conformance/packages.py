@@ -7,6 +7,7 @@ usage: packages.py PACKAGE FOLDER
 
 PACKAGE may be NAME=VERSION or NAME/SUITE, as for apt. If the configured suites don't have it, the other suites of the same mirror
 are searched with a private apt configuration: the machine's sources and lists stay as they are, and no lock of dpkg is taken.
+A package for arm64, which has that in its name, is found so in the configured suites, too.
 The last line is the path of the package.
 
 With --kernel, the dependencies are followed from a metapackage (linux-image-amd64) to the package that has the kernel's image,
@@ -30,6 +31,9 @@ from typing import Callable
 SOURCES = Path("/etc/apt")
 # beside those that are configured, the nearest first
 OTHER_SUITES = ("stable", "testing", "unstable", "experimental")
+ARM = "arm64"
+# what stands behind a suite in a line of sources.list
+AREAS = ("main", "contrib", "non-free")
 
 
 class NotFound(Exception):
@@ -50,16 +54,30 @@ def mirror() -> tuple[str, str]:
     raise NotFound("apt has no mirror of Debian's configured")
 
 
-def configuration(room: Path) -> dict[str, str]:
-    """An environment in which apt knows the other suites alone, and keeps its lists in the room."""
+def configured_suites() -> tuple[str, ...]:
+    """The suites that apt has configured, but those of security updates, which have another address."""
+    files = [*SOURCES.glob("sources.list.d/*.sources"), *SOURCES.glob("sources.list.d/*.list"), SOURCES / "sources.list"]
+    texts = [it.read_text(encoding="utf-8") for it in files if it.is_file()]
+    named = [it for text in texts for it in re.findall(r"(?m)^(?:Suites:|deb (?:\[.*\] )?\S+/debian/? (?=\S+ )) *(\S.*)$", text)]
+    return tuple(dict.fromkeys(it for words in named for it in words.split() if re.fullmatch(r"[a-z]+(-updates)?", it) and it not in AREAS))
+
+
+def is_foreign(package: str) -> bool:
+    """Whether a package is for arm64, of which this machine's apt knows nothing."""
+    return re.search(rf"-{ARM}\b", package) is not None
+
+
+def configuration(room: Path, suites: tuple[str, ...] = OTHER_SUITES, architecture: str = "") -> dict[str, str]:
+    """An environment in which apt knows other suites, or packages for another processor, alone, and keeps its lists in the room."""
     address, keys = mirror()
-    (room / "parts").mkdir()
+    (room / "parts").mkdir(parents=True)
     (room / "lists" / "partial").mkdir(parents=True)
     signed = f"Signed-By: {keys}\n" if keys else ""
-    stanza = f"Types: deb\nURIs: {address}\nSuites: {' '.join(OTHER_SUITES)}\nComponents: main\n{signed}"
+    stanza = f"Types: deb\nURIs: {address}\nSuites: {' '.join(suites)}\nComponents: main\n{signed}"
     (room / "parts" / "other.sources").write_text(stanza, encoding="utf-8")
     said = {"Dir::Etc::SourceList": "/dev/null", "Dir::Etc::SourceParts": room / "parts", "Dir::State::Lists": room / "lists",
             "Dir::Cache": room / "cache", "APT::Sandbox::User": "root" if os.geteuid() == 0 else ""}
+    said |= {"APT::Architecture": architecture, "APT::Architectures": architecture} if architecture else {}
     (room / "apt.conf").write_text("".join(f'{key} "{value}";\n' for key, value in said.items()), encoding="utf-8")
     return {**os.environ, "APT_CONFIG": str(room / "apt.conf")}
 
@@ -150,13 +168,17 @@ def last_line(text: str) -> str:
 
 def fetch_into(package: str, room: Path, meant: Meant) -> Path:
     """The package's file in the room, from a configured suite or from another one."""
-    own = room / "own"
+    own, architecture = room / "own", ARM if is_foreign(package) else ""
     own.mkdir()
-    real = meant(package, own, own_environment())
-    got = download(real, own, own_environment()) if real else ""
+    environment = own_environment()
+    if architecture:
+        environment = configuration(room / "configured", configured_suites(), architecture)
+        apt(["update"], own, environment)
+    real = meant(package, own, environment)
+    got = download(real, own, environment) if real else ""
     if isinstance(got, Path):
         return got
-    environment = configuration(room)
+    environment = configuration(room / "others", OTHER_SUITES, architecture)
     updated = apt(["update"], own, environment)
     real = meant(package, own, environment)
     got = download(real, own, environment) if real else f"no suite of the mirror has a package {package}"

@@ -140,6 +140,7 @@ MISUSES = (
     (["test", "--kernel", "/nonexistent"], "/nonexistent is no kernel that can be read"),
     (["test", "--kernel", "/dev/null", "--suites", "odd"], "there is no suite odd"),
     (["test", "--kernel", "/dev/null", "--without", "odd"], "there is no known issue odd"),
+    (["test", "--kernel", "/dev/null", "--page", "64", "--suites", "peers"], "the suite peers has calls in bytes, for pages of 2048 KiB"),
     (["test", "--kernel", "/dev/null", "--program", "/bin/true"], "/bin/true doesn't replay a trace"),
     (["minimize", "/nonexistent", "--kernel", "/dev/null"], "/nonexistent: No such file"),
 )
@@ -486,14 +487,16 @@ def faults_of_lacks() -> Iterator[tuple[str, object]]:
         room, image = Path(name), Path(name) / "vmlinuz-1"
         image.touch()
         with patch.object(kernels.shutil, "which", lambda command: None if command.startswith("qemu") else f"/bin/{command}"):
-            said = problem_of(lambda: kernels.emulated(image, "x", kernels.Emulation(1, 1)))
-        yield "no QEMU", said.startswith("not on the PATH: 'qemu-system-x86_64' (package: qemu-system-x86);") or said
+            for start, emulator, package in ((b"", "qemu-system-x86_64", "x86"), (bytes(56) + b"ARMd", "qemu-system-aarch64", "arm")):
+                image.write_bytes(start)
+                said = problem_of(lambda: kernels.emulated(image, "x", kernels.Emulation(1, 1)))
+                yield f"no {emulator}", said.startswith(f"not on the PATH: '{emulator}' (package: qemu-system-{package})") or said
         with patch.object(kernels.os, "geteuid", lambda: 1000):
             said = problem_of(kernels.here)
         yield "no root", said == "--here needs root, which alone can change the number of huge pages" or said
         cache, apt = room / "cache", lambda part: unreachable(Path(tempfile.mkdtemp(dir=room)) / part)
         with patch.object(kernels, "cache", lambda: cache), patch.object(kernels, "say", lambda _: None):
-            with patch.object(packages, "own_environment", lambda: apt("own")), patch.object(packages, "configuration", lambda _: apt("other")):
+            with patch.object(packages, "own_environment", lambda: apt("own")), patch.object(packages, "configuration", lambda *_: apt("other")):
                 said = problem_of(lambda: kernels.image_of("linux-image-1"))
         yield "no network", said.startswith("the kernel of linux-image-1 can't be fetched: ") and "Failed to fetch" in said or said
         yield "no network: nothing is kept", not cache.exists()

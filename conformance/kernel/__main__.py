@@ -60,6 +60,7 @@ def add_kernel(to: argparse.ArgumentParser) -> argparse._MutuallyExclusiveGroup:
     which.add_argument("--here", action="store_true", help="this machine's own kernel, as root, where no huge page is in use")
     to.add_argument("--append", default="", metavar="WORDS", help="further words for the command line of an emulated kernel")
     to.add_argument("--memory", type=positive, metavar="MIB", help="the memory of the emulated machine (768)")
+    to.add_argument("--page", type=positive, default=kernels.PAGE, metavar="KIB", help="the size of huge pages (2048)")
     to.add_argument("--cpus", type=positive, default=2, metavar="N", help="processors of the emulated machine (2)")
     to.add_argument("--seconds", type=positive, default=900, metavar="N", help="ends an emulated machine that isn't done by then (900)")
     to.add_argument("--program", metavar="P", help="a program that answers for the machine: 'P replay' reads a trace")
@@ -134,12 +135,12 @@ def parser() -> argparse.ArgumentParser:
 
 def kernel_of(options: argparse.Namespace) -> Kernel:
     if options.here:
-        return kernels.here()
+        return kernels.here(options.page)
     consoles = getattr(options, "keep_console", None)
     if consoles is not None:
         consoles.write_text("", encoding="utf-8")
     is_paused, panics = getattr(options, "audit", False), getattr(options, "panic_on_warn", False)
-    how = Emulation(options.cpus, options.seconds, is_paused, panics, consoles, options.append, options.memory)
+    how = Emulation(options.cpus, options.seconds, is_paused, panics, consoles, options.append, options.memory, options.page)
     if getattr(options, "answers", None) is not None:
         return bundle.answered(options.answers)
     if options.package is not None:
@@ -154,7 +155,10 @@ def run_test(options: argparse.Namespace) -> int:
         return 0
     issues = known_issues(options.known, tuple(options.without))
     default = [] if options.scripts else bundle.suites_in(options.answers) if options.answers else suites.default(options.here)
+    default = [it for it in default if it != suites.PEERS or options.page == kernels.PAGE]
     chosen = [suites.suite_of(name) for name in (default if options.suites is None else options.suites)]
+    if options.page != kernels.PAGE and any(it.name == suites.PEERS for it in chosen):
+        raise Problem(f"the suite {suites.PEERS} has calls in bytes, for pages of {kernels.PAGE} KiB")
     files = [(path.name, suites.read_scripts(path)) for path in options.scripts]
     symbols = audit_symbols(options) if options.audit else None
     answering, kernel = machine(options.program), kernel_of(options)

@@ -23,6 +23,8 @@ RECORD = Path(__file__).resolve().parent.parent / "record"
 LOOK, SAY = 0.2, 15.0
 # a run without an answer for so many seconds says so
 SILENT = 30.0
+# a machine that hasn't begun to record by then is booted again, unless a fifth of the time that it may take is longer
+BOOT = 120
 # a disk with less than so many bytes left is full
 FULL = 65536
 # what a recorder says where a kernel did what no rule allows: each pattern, and its sentence
@@ -31,7 +33,12 @@ ODD = (
     (r"record: task (\d+) died of signal ((?:4|5|7|8|11) \(.*\))", "a call of task {0} ended in signal {1}"),
     (r"record: before script (\S+) the kernel keeps (\d+) huge pages that nobody should use", "{1} huge pages are still in use before script {0}, and nobody has them"),
 )
-COMMANDS = {"qemu-system-x86_64": "qemu-system-x86", "cpio": "cpio", "cc": "build-essential", "setpriv": "util-linux"}
+COMMANDS = {"qemu-system-x86_64": "qemu-system-x86", "qemu-system-aarch64": "qemu-system-arm",
+            "aarch64-linux-gnu-gcc": "gcc-aarch64-linux-gnu libc6-dev-arm64-cross", "cpio": "cpio", "cc": "build-essential", "setpriv": "util-linux"}
+# what emulates a processor, beside the C compiler for this machine's own
+EMULATING = {"x86_64": ("qemu-system-x86_64",), "aarch64": ("qemu-system-aarch64", "aarch64-linux-gnu-gcc")}
+# the size of huge pages, in KiB, unless it is said
+PAGE = 2048
 # what ends a recorder in order if this program is killed, even in a way that it can't notice
 WITH_US = ("setpriv", "--pdeathsig", "TERM")
 
@@ -235,22 +242,31 @@ class Emulation:
     # further words for the kernel, and its memory in MiB, if it isn't emulate.sh's own
     append: str = ""
     memory: int | None = None
+    # the size of the huge pages that are used, in KiB
+    page: int = PAGE
 
     def words(self) -> list[str]:
-        words = ["--leave", "--cpus", str(self.cpus), "--seconds", str(self.seconds)]
+        words = ["--leave", "--cpus", str(self.cpus), "--seconds", str(self.seconds), "--boot-seconds", str(max(BOOT, self.seconds // 5))]
         words += ["--memory", str(self.memory)] if self.memory else []
+        words += ["--page", str(self.page)] if self.page != PAGE else []
         append = " ".join(it for it in ("panic_on_warn=1" if self.panics_on_warning else "", self.append) if it)
         return [*words, *(["--pause"] if self.is_paused else []), *(["--append", append] if append else [])]
 
 
 def emulated(kernel: Path, name: str, how: Emulation) -> Kernel:
     """A kernel in an emulated machine."""
-    readable(kernel)
-    need("qemu-system-x86_64", "cpio", "cc", "setpriv")
-    accel = accelerator()
+    processor = processor_of(readable(kernel))
+    need(*EMULATING[processor], "cpio", "cc", "setpriv")
+    accel = accelerator() if processor == "x86_64" else "tcg"
     options = ["--kernel", kernel, *how.words(), "--accel", accel]
     staying = (RECORD / "emulate.sh", *options, "--stay")
     return Kernel(name, lambda scripts, _: [RECORD / "emulate.sh", *options, scripts], accel == "tcg", how.consoles, staying)
+
+
+def processor_of(image: Path) -> str:
+    """The processor that a kernel's image is for, as emulate.sh finds it."""
+    with image.open("rb") as file:
+        return "aarch64" if file.read(60)[56:] == b"ARMd" else "x86_64"
 
 
 def accelerator() -> str:
@@ -279,17 +295,18 @@ def image_of(package: str) -> Path:
 
 def of_package(package: str, how: Emulation) -> Kernel:
     """The kernel of a Debian package, in an emulated machine."""
-    need("qemu-system-x86_64", "cpio", "cc")
+    need(*EMULATING["aarch64" if packages.is_foreign(package) else "x86_64"], "cpio", "cc")
     kernel = image_of(package)
     return emulated(kernel, f"{package} ({kernel.name})", how)
 
 
-def here() -> Kernel:
+def here(page: int = PAGE) -> Kernel:
     """The kernel of this machine. The recorder refuses unless no huge page is in use, and puts the settings back."""
     if os.geteuid() != 0:
         raise Problem("--here needs root, which alone can change the number of huge pages")
     need("cc", "setpriv")
-    built = subprocess.run([RECORD / "build.sh"], capture_output=True, text=True, check=False)
+    environment = {**os.environ, "PAGE_KIB": str(page)}
+    built = subprocess.run([RECORD / "build.sh"], capture_output=True, text=True, check=False, env=environment)
     if built.returncode:
         raise Problem(f"the recorder can't be compiled: {reason(built.stderr, built.returncode)}")
 

@@ -26,9 +26,13 @@ output. The kernel of the machine that it runs on is left alone, and nobody has 
   --pause       stops the machine behind each race, until somebody has it go on by the monitor, a socket in TMPDIR/emulate-*/monitor
   --cpus N      that many processors (2)
   --memory MIB  that much memory (768)
+  --page KIB    huge pages of that size (2048)
   --seconds N   ends a machine that isn't done by then (900)
   --boot-seconds N  ends a machine on which the recorder hasn't begun by then (120)
   --accel NAME  kvm or tcg (kvm where /dev/kvm may be used and this machine isn't a virtual one)
+
+The machine is of x86-64, or of arm64 if the kernel's image is (then with the packages qemu-system-arm, gcc-aarch64-linux-gnu and
+libc6-dev-arm64-cross).
 
 A kernel that panics or hangs before the recorder begins is booted again, three times in all. A script that leaves the
 kernel's own reserve count wrong is the last one of its machine: another one is booted for the rest. KIRVESSA_CACHE is where kernels are kept (~/.cache/kirvessa).
@@ -37,7 +41,7 @@ Status: 0 all is recorded; 1 something failed, or differs; 2 a wrong word or scr
 here=$(cd "$(dirname "$(readlink -f "${BASH_SOURCE[0]}")")" && pwd)
 cache=${KIRVESSA_CACHE:-${XDG_CACHE_HOME:-$HOME/.cache}/kirvessa}
 package=linux-image-cloud-amd64
-kernel='' cpus=2 memory=768 seconds=900 boot_seconds=120 accel='' is_again='' is_install='' is_pausing='' is_leaving='' is_staying='' append='' program=''
+kernel='' cpus=2 memory=768 seconds=900 boot_seconds=120 page=2048 accel='' is_again='' is_install='' is_pausing='' is_leaving='' is_staying='' append='' program=''
 files=()
 
 say() { echo "emulate: $*" >&2; }
@@ -53,8 +57,8 @@ number() { [[ $2 =~ ^[1-9][0-9]*$ ]] || misuse "$1 wants a number, not '$2'"; }
 read_words() {
     while [ $# -gt 0 ]; do
         case $1 in
-        --kernel | --package | --cpus | --memory | --seconds | --boot-seconds | --accel | --append | --run) [ $# -gt 1 ] || misuse "$1 wants a word behind it" ;;&
-        --cpus | --memory | --seconds | --boot-seconds) number "$1" "$2" ;;&
+        --kernel | --package | --cpus | --memory | --page | --seconds | --boot-seconds | --accel | --append | --run) [ $# -gt 1 ] || misuse "$1 wants a word behind it" ;;&
+        --cpus | --memory | --page | --seconds | --boot-seconds) number "$1" "$2" ;;&
         --again) is_again=1 ;;
         --install) is_install=1 ;;
         --pause) is_pausing=1 ;;
@@ -65,6 +69,7 @@ read_words() {
         --package) package=$2; shift ;;
         --cpus) cpus=$2; shift ;;
         --memory) memory=$2; shift ;;
+        --page) page=$2; shift ;;
         --seconds) seconds=$2; shift ;;
         --boot-seconds) boot_seconds=$2; shift ;;
         --accel) accel=$2; shift ;;
@@ -77,10 +82,14 @@ read_words() {
     done
 }
 
+# The processor that a kernel's image is for.
+arch_of() { if [ -f "$1" ] && [ "$(head -c 60 "$1" | tail -c 4 | tr -d '\0')" = ARMd ]; then echo aarch64; else echo x86_64; fi; }
+
 # the packages that have what isn't on the PATH
 missing_packages() {
-    local pair
-    for pair in cc:build-essential qemu-system-x86_64:qemu-system-x86 ${is_staying:+qemu-img:qemu-utils} cpio:cpio timeout:coreutils setpriv:util-linux python3:python3; do
+    local pair emulating=(qemu-system-x86_64:qemu-system-x86)
+    [ "$(arch_of "$kernel")" = x86_64 ] || emulating=(qemu-system-aarch64:qemu-system-arm aarch64-linux-gnu-gcc:gcc-aarch64-linux-gnu)
+    for pair in cc:build-essential "${emulating[@]}" ${is_staying:+qemu-img:qemu-utils} cpio:cpio timeout:coreutils setpriv:util-linux python3:python3; do
         command -v "${pair%%:*}" > /dev/null || echo "${pair#*:}"
     done
 }
@@ -114,12 +123,12 @@ install_all() {
 
 need_all() {
     local packages
+    [ -n "$kernel" ] || kernel=$(kept_kernel)
     mapfile -t packages < <(missing_packages)
     if [ ${#packages[@]} -gt 0 ]; then
         say "missing are Debian's packages ${packages[*]}: 'apt-get install ${packages[*]}', or emulate.sh --install"
         exit 127
     fi
-    [ -n "$kernel" ] || kernel=$(kept_kernel)
     if [ -z "$kernel" ]; then
         say "there is no kernel of the package $package in $cache: emulate.sh --install fetches it, or --kernel names one"
         exit 127
@@ -134,6 +143,7 @@ need_all() {
 choose_accel() {
     [ -z "$accel" ] || return 0
     accel=tcg
+    [ "$(arch_of "$kernel")" = x86_64 ] || return 0
     if [ -r /dev/kvm ] && [ -w /dev/kvm ] && ! grep -qw hypervisor /proc/cpuinfo; then accel=kvm; fi
 }
 
@@ -192,17 +202,26 @@ await_machine() {
 # race takes a third of the time. The console has warnings, too, a kernel that oopses stops, and a task that hangs for a minute is
 # reported; a kernel without these numbers says so, and goes on.) What is recorded is in $work/recorded then, what the recorder told in $work/told, what the kernel told in $work/console.
 boot_once() {
-    local stopping=() staying=()
+    local stopping=() staying=() console="ttyS0 no_timer_check" machine_words=() lines=() asked=null
+    if [ "$(arch_of "$kernel")" = x86_64 ]; then
+        machine_words=(qemu-system-x86_64 -machine pc -cpu max,-erms)
+        lines=(-serial file:"$work/recorded" -serial file:"$work/told" ${is_staying:+-serial "unix:$work/asked,server=on,wait=off"})
+    else
+        # (its own line is ttyAMA0; those of the card are ttyS0 to ttyS3)
+        [ -z "$is_staying" ] || asked="socket,path=$work/asked,server=on,wait=off"
+        console=ttyAMA0 machine_words=(qemu-system-aarch64 -machine virt -cpu cortex-a72)
+        lines=(-chardev null,id=none -chardev "file,id=recorded,path=$work/recorded" -chardev "file,id=told,path=$work/told"
+            -chardev "$asked,id=asked" -device pci-serial-4x,chardev1=none,chardev2=recorded,chardev3=told,chardev4=asked)
+    fi
     [ -z "$is_pausing" ] || stopping=(-device pvpanic -action panic=pause -qmp "unix:$work/monitor,server=on,wait=off")
     [ -z "$is_staying" ] || staying=(-drive "if=none,format=qcow2,file=$work/state" -qmp "unix:$work/monitor,server=on,wait=off")
     [ -z "$is_leaving" ] || cat "$work/console" >> "$work/consoles" 2> /dev/null || true
     rm -f "$work"/{recorded,told,console,monitor}
     touch "$work"/{recorded,told,console}
-    setpriv --pdeathsig TERM timeout "$seconds" qemu-system-x86_64 -machine pc -accel "$accel" -cpu max,-erms -m "$memory" -smp "$cpus" \
-        -nodefaults -no-user-config -display none -no-reboot -kernel "$kernel" -initrd "$work/initramfs" "${stopping[@]}" "${staying[@]}" \
-        -append "console=ttyS0 loglevel=5 oops=panic sysctl.kernel.hung_task_timeout_secs=60 panic=-1 no_timer_check $append -- $*" \
-        -serial file:"$work/console" -serial file:"$work/recorded" -serial file:"$work/told" ${is_staying:+-serial "unix:$work/asked,server=on,wait=off"} \
-        < /dev/null >&2 &
+    setpriv --pdeathsig TERM timeout "$seconds" "${machine_words[@]}" -accel "$accel" -m "$memory" -smp "$cpus" -nodefaults -no-user-config \
+        -display none -no-reboot -kernel "$kernel" -initrd "$work/initramfs" "${stopping[@]}" "${staying[@]}" \
+        -append "console=$console loglevel=5 oops=panic sysctl.kernel.hung_task_timeout_secs=60 panic=-1 $append -- $*" \
+        -serial file:"$work/console" "${lines[@]}" < /dev/null >&2 &
     machine=$!
     await_machine
     grep -v '^status ' "$work/told" >&2 || true
@@ -285,7 +304,7 @@ stay() {
 
 check_words() {
     [ ${#files[@]} -gt 0 ] || { [ -n "$is_install" ] && exit 0; } || misuse "which scripts?"
-    "$work/built/record" --check "${files[@]}" > "$work/checked" || exit $?
+    "$work/checking/record" --check "${files[@]}" > "$work/checked" || exit $?
     [ -z "$is_again" ] || ! grep -q '^race ' "${files[@]}" || misuse "what a race leaves is by chance, and can't be compared"
 }
 
@@ -301,7 +320,13 @@ trap 'exit 130' INT TERM HUP
 [ -z "$is_install" ] || install_all
 need_all
 choose_accel
-"$here/build.sh" "$work/built"
+# (the scripts are checked here, and made there)
+PAGE_KIB=$page "$here/build.sh" "$work/checking"
+if [ "$(arch_of "$kernel")" = x86_64 ]; then
+    ln -s checking "$work/built"
+else
+    PAGE_KIB=$page CC=aarch64-linux-gnu-gcc "$here/build.sh" "$work/built"
+fi
 if [ -n "$program" ]; then
     run_program "${files[@]}"
     exit $?

@@ -8,8 +8,11 @@
 #include <unistd.h>
 
 #include "fail.h"
+#include "task.h"
 
-#define FOLDER "/sys/kernel/mm/hugepages/hugepages-2048kB/"
+#define TEXT_OF(number) #number
+#define SIZE_TEXT(kib) TEXT_OF(kib) "kB"
+#define FOLDER "/sys/kernel/mm/hugepages/hugepages-" SIZE_TEXT(HUGE_PAGE_KIB) "/"
 
 static long read_count(const char *path)
 {
@@ -91,7 +94,7 @@ void check_machine(void)
     if (!has_hugetlbfs())
         fail(STATUS_FAILED, "this kernel has no hugetlbfs");
     if (access(FOLDER, F_OK))
-        fail(STATUS_FAILED, "this kernel has no huge pages of 2 MiB (%s is not there)", FOLDER);
+        fail(STATUS_FAILED, "this kernel has no huge pages of " SIZE_TEXT(HUGE_PAGE_KIB) " (%s is not there)", FOLDER);
     now = counts_of_kernel();
     if (now.free != now.total || now.reserved || now.surplus)
         fail(STATUS_FAILED, "huge pages are in use: of %ld are %ld free, %ld reserved and %ld surplus", now.total, now.free,

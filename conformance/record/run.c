@@ -68,10 +68,11 @@ static void path_of(const struct pool *pool, unsigned file, char *path, size_t s
 
 static void mount_pool(const struct pool *pool)
 {
-    char options[64] = "pagesize=2M";
+    char options[64];
+    int length = snprintf(options, sizeof options, "pagesize=%uK", HUGE_PAGE_KIB);
 
     if (pool->script->quota >= 0)
-        snprintf(options, sizeof options, "pagesize=2M,size=%" PRIu64, pool->script->quota * HUGE_PAGE);
+        snprintf(options + length, sizeof options - length, ",size=%" PRIu64, pool->script->quota * HUGE_PAGE);
     if (mount("none", pool->mount_point, "hugetlbfs", 0, options))
         fail_errno("mounting a hugetlbfs (%s)", options);
 }

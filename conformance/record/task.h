@@ -8,14 +8,18 @@
 
 #include "script.h"
 
-#define HUGE_PAGE UINT64_C(2097152)
+/* The size of the pages, which a build may say. */
+#ifndef HUGE_PAGE_KIB
+#define HUGE_PAGE_KIB 2048
+#endif
+#define HUGE_PAGE (UINT64_C(1024) * HUGE_PAGE_KIB)
 
 enum {
     /* the pages that a file may have, and those that a task may map */
     FILE_LIMIT = 4096,
     TASK_PAGES = 16384,
-    /* the virtual pages that a script may name: nothing else of the process lies there */
-    WINDOW = 1048576,
+    /* the virtual pages that a script may name: nothing else of the process lies there (of 1 GiB, so many have an address) */
+    WINDOW = HUGE_PAGE_KIB < 1048576 ? 1048576 : 65536,
     ANSWER_SIZE = 256,
 };
 
