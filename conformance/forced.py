@@ -56,6 +56,15 @@ PLACES = (
 HELD = ("store 1 5", "store 3 5", "alloc 0 1 3", "map 0 0 4", "punch 0 1 1", "punch 0 0 5")
 # what is made meanwhile: touches, and beside a touch also calls that take the file's lock, which other held calls have
 TOUCHES, LOCKING = ("store 1 6", "store 2 6"), ("alloc 0 1 3", "map 0 0 5", "punch 0 1 1")
+# what is made in a memory cgroup that may have nothing, of a file without a page: what a page is placed in can't be had then
+POOR = ("store 1 5", "store 3 5", "load 2", "alloc 0 1 1", "alloc 0 0 3", "allock 0 3 1")
+EMPTY = {
+    "bare": (),
+    "reserved": ("begin 2 map 0 0 4",),
+    "holed": ("begin 2 map 0 0 5", "begin 2 store 8 7", "begin 2 punch 0 3 1"),
+}
+# the tables of a task's own pages are there
+TABLES = ("begin 1 load 4", "begin 1 punch 0 4 1")
 # the calls that are denied memory, and up to which of their allocations
 DENIED = ("store 1 5", "store 3 5", "load 0", "alloc 0 0 3", "alloc 0 3 2", "map 0 0 4", "map 0 1 1")
 DENIED += ("punch 0 1 1", "punch 0 3 1", "unmap 0")
@@ -91,6 +100,13 @@ def denied() -> Iterator[Script]:
     for setting, (at, call), first, more in product(SETTINGS, enumerate(DENIED, 1), range(1, ALLOCATIONS + 1), (0, 1)):
         lines = (f"deny {first}-{first + more} 1 {call}", "begin 2 map 0 0 5", "begin 2 load 1")
         yield script(f"denied.{setting}.{at}.{first}-{first + more}", setting, lines)
+
+
+def charged() -> Iterator[Script]:
+    """Each call for which what is charged to a memory cgroup can't be had: the page that it has taken is backed out."""
+    for (setting, before), (at, call) in product(EMPTY.items(), enumerate(POOR, 1)):
+        lines = (*TABLES, *before, f"deny charged 1 {call}", "begin 2 map 0 0 5", "begin 2 load 1", "begin 2 load 2")
+        yield script(f"charged.{setting}.{at}", "bare", lines)
 
 
 # the lines of a script whose schedule is forced, and what they are answered where the kernel can do so

@@ -60,7 +60,7 @@ def faults_of_scripts() -> Iterator[tuple[str, object]]:
     with tempfile.TemporaryDirectory(prefix="forced-") as name:
         room = Path(name)
         subprocess.run([TOP / "conformance" / "record" / "build.sh", room], check=True)
-        for suite in (suites.HELD, suites.DENIED):
+        for suite in (suites.HELD, suites.DENIED, suites.CHARGED):
             some = suites.scripts_of(suites.SUITES[suite])
             (room / suite).write_text(suites.text_of(some), encoding="utf-8")
             checked = subprocess.run([room / "record", "--check", room / suite], capture_output=True, text=True, check=False)

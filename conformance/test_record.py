@@ -70,11 +70,12 @@ BAD = [
     (POOL + "start 1 load 0\nwait 1\nwait 1\nend\n", 5, "task 1 isn't at work"),
     (POOL + "start 1 load 0\nwait\nend\n", 4, "a wait is 'wait TASK'"),
     (POOL + "start 2 load 0\nrace 1 2 3\nwait 2\nend\n", 4, "task 2 is at work still: 'wait 2' has to come first"),
-    (POOL + "hold region_add 1\nend\n", 3, "a call that is held is 'hold FUNCTION [deny FIRST-LAST] TASK CALL ..'"),
+    (POOL + "hold region_add 1\nend\n", 3, "a call that is held is 'hold FUNCTION [deny FIRST-LAST|charged] TASK CALL ..'"),
     (POOL + "hold region_add 3 load 0\nwait 3\nend\n", 3, "3 is too large"),
     (POOL + "hold region_add 1 load 0\nend\n", 4, "task 1 is at work still: 'wait 1' has to come first"),
     (POOL + "hold region_add deny 2-1 1 load 0\nwait 1\nend\n", 3, "1 is too small"),
-    (POOL + "deny 1\nend\n", 3, "a call that is denied memory is 'deny FIRST[-LAST] TASK CALL ..'"),
+    (POOL + "deny 1\nend\n", 3, "a call that is denied memory is 'deny FIRST[-LAST]|charged TASK CALL ..'"),
+    (POOL + "deny charged-2 1 load 0\nend\n", 3, "'charged'"),
     (POOL + "deny 0 1 load 0\nend\n", 3, "0 is too small"),
     (POOL + "deny 1-1001 1 load 0\nend\n", 3, "1001 is too large"),
     (POOL + "start 2 load 0\nend\n", 4, "task 2 is at work still: 'wait 2' has to come first"),
@@ -84,7 +85,7 @@ GOOD = [
     (POOL + "end", (1, 0)),
     ("# a kernel\n" + POOL + "begin 1 exit = done | 4 0 | 0 0 | 0 0\nend total 4 free 4 resv 0 surp 0\n", (1, 1)),
     (POOL + "start 2 load 0 = started\nbegin 1 exit\nresize 3\nstart 1 load 0 = refused notalive\nwait 2\nwait 1\nend\n", (1, 6)),
-    (POOL + "hold a|b 1 load 0\nwait 1\nhold a deny 1-2 2 load 0\nwait 2\ndeny 3 1 load 0\ndeny 3-9 1 load 0\nend\n", (1, 6)),
+    (POOL + "hold a|b 1 load 0\nwait 1\nhold a deny 1-2 2 load 0\nwait 2\ndeny 3 1 load 0\ndeny charged 1 load 0\nend\n", (1, 6)),
     (POOL + "resize 0\nend\n" + POOL + "race 1 2 3\nbegin 2 load 1048575\nbegin 1 store 0 18446744073709551615\nend\n", (2, 4)),
 ]
 # words, and the status and some words that they end with

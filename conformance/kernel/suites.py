@@ -32,7 +32,7 @@ AT_ONCE = "calls at once"
 BY_COUNTS = "quotas, resizes; answers, pages and words (only counts at rest are compared); schedules that chance misses"
 BY_COUNTS_ALONE = "truncations, resizes; answers and pages (counts at rest are compared)"
 # the suites whose schedules are forced
-HELD, DENIED = "held", "denied"
+HELD, DENIED, CHARGED = "held", "denied", "charged"
 # what no suite has
 NOWHERE = "private mappings, fork of a task that maps, mremap, userfaultfd, minimum sizes (min_size=), surplus pages (overcommit), \
 control groups, NUMA, migration, memory failures (poison), pages of other sizes than 2 MiB"
@@ -46,6 +46,7 @@ SUITES = {
         Suite(PEERS, tuple(f"{PEERS}/{path.name}" for path in sorted((FOLDER / PEERS).glob("*.txt"))), "what its authors don't assert of calls that overlap"),
         Suite(HELD, (), f"calls that are held at other places; {BY_COUNTS_ALONE}", True, forced.held),
         Suite(DENIED, (), f"{AT_ONCE}, allocations of whole pages; {BY_COUNTS_ALONE}", True, forced.denied),
+        Suite(CHARGED, (), f"{AT_ONCE}, descriptors of the reserve map; {BY_COUNTS_ALONE}", True, forced.charged),
         Suite("races", ("races.txt", "races-by-kind.txt"), BY_COUNTS, True),
         Suite("races-by-chance", ("races-by-chance.txt",), BY_COUNTS, True),
     )
@@ -57,7 +58,7 @@ RACES = "races"
 
 def default(is_here: bool) -> tuple[str, ...]:
     """The suites that run unless some are named. A machine's own kernel is left with its counts: there races have to be named."""
-    return SEQUENTIAL if is_here else (*SEQUENTIAL, HELD, DENIED, RACES)
+    return SEQUENTIAL if is_here else (*SEQUENTIAL, HELD, DENIED, CHARGED, RACES)
 
 
 def lacks(name: str, has_races: bool) -> str:

@@ -1,17 +1,26 @@
 /* One number that a process has says which of its allocations fails first (fail-nth); a mark that it has (make-it-fail) has
- * later ones fail, too, as many as the kernel is told (times). */
+ * later ones fail, too, as many as the kernel is told (times). What is charged to a memory cgroup fails in one that may have
+ * nothing: page tables, mappings, and the nodes of a page cache; the descriptors of a reserve map aren't charged. */
 #include "deny.h"
 
+#include <errno.h>
 #include <fcntl.h>
+#include <signal.h>
 #include <stdio.h>
 #include <string.h>
 #include <sys/mount.h>
+#include <sys/stat.h>
 #include <unistd.h>
 
 #include "fail.h"
 
 #define DEBUG "/sys/kernel/debug"
 #define FOLDER DEBUG "/failslab/"
+#define GROUPS "/sys/fs/cgroup"
+#define POOR GROUPS "/kirvessa-poor"
+
+/* so many seconds a process may stay in the group */
+enum { PATIENCE = 5 };
 
 static bool write_word(const char *path, const char *word)
 {
@@ -35,21 +44,40 @@ static bool prepare(void)
            write_word(FOLDER "probability", "100");
 }
 
+/* A memory cgroup that may have nothing. (A kernel would kill for it, if any process in it could be killed.) */
+static bool prepare_group(void)
+{
+    if (access(GROUPS "/cgroup.controllers", F_OK) && mount("none", GROUPS, "cgroup2", 0, NULL))
+        return false;
+    return write_word(GROUPS "/cgroup.subtree_control", "+memory") && (!mkdir(POOR, 0755) || errno == EEXIST) &&
+           write_word(POOR "/memory.max", "0");
+}
+
 bool ready_denial(struct denial denial)
 {
-    static enum { UNKNOWN, CAN, CANNOT } state;
+    static enum { UNKNOWN, CAN, CANNOT } state, charged;
     char times[16];
 
+    if (denial.is_charged) {
+        if (charged == UNKNOWN)
+            charged = prepare_group() ? CAN : CANNOT;
+        return charged == CAN;
+    }
     if (state == UNKNOWN)
         state = prepare() ? CAN : CANNOT;
     snprintf(times, sizeof times, "%u", denial.last - denial.first + 1);
     return state == CAN && write_word(FOLDER "times", times);
 }
 
-/* What a process says of its own allocations. Opening a file allocates memory: so both are open before one is denied. */
+void end_denials(void)
+{
+    rmdir(POOR);
+}
+
+/* What a process says of its own allocations. Opening a file allocates memory: so all are open before one is denied. */
 static struct {
-    int first, mark;
-    bool is_open, is_denying;
+    int first, mark, poor, group;
+    bool is_open, is_denying, is_poor, may_be_poor;
 } own;
 
 static int open_own(const char *path)
@@ -70,9 +98,33 @@ static void write_own(int file, unsigned number)
         fail_errno("having an allocation fail");
 }
 
+/* A touch that can't have a page table is tried again and again: it ends when the process leaves the group. */
+static void leave_group(int number)
+{
+    (void)number;
+    if (write(own.group, "0", 1) != 1)
+        fail_errno("leaving a control group");
+}
+
+static void enter_group(void)
+{
+    if (!own.may_be_poor) {
+        own.poor = open_own(POOR "/cgroup.procs");
+        own.group = open_own(GROUPS "/cgroup.procs");
+        signal(SIGALRM, leave_group);
+        own.may_be_poor = write_word("/proc/self/oom_score_adj", "-1000");
+    }
+    if (!own.may_be_poor || write(own.poor, "0", 1) != 1)
+        fail_errno("entering a control group");
+    own.is_poor = true;
+    alarm(PATIENCE);
+}
+
 void begin_denial(struct denial denial)
 {
-    own.is_denying = denial.first;
+    own.is_denying = denial.first && !denial.is_charged;
+    if (denial.is_charged)
+        enter_group();
     if (!own.is_denying)
         return;
     if (!own.is_open) {
@@ -87,6 +139,11 @@ void begin_denial(struct denial denial)
 
 void end_denial(void)
 {
+    if (own.is_poor) {
+        alarm(0);
+        leave_group(0);
+        own.is_poor = false;
+    }
     if (!own.is_denying)
         return;
     write_own(own.first, 0);

@@ -6,8 +6,11 @@
 
 #include "script.h"
 
-/* Readies the kernel for a call that is denied memory. Whether it can do so (CONFIG_FAILSLAB). */
+/* Readies the kernel for a call that is denied memory. Whether it can do so (CONFIG_FAILSLAB, or CONFIG_MEMCG of what is charged). */
 bool ready_denial(struct denial denial);
+
+/* Takes back what was readied, where all calls have ended. */
+void end_denials(void);
 
 /* In a task's process: has its allocations fail from the first of a denial to the last, if it is one. */
 void begin_denial(struct denial denial);

@@ -81,14 +81,14 @@ static struct call draw_call(const struct desk *desk, enum operation operation, 
 
     switch (operation) {
     case OP_UNMAP:
-        return (struct call){operation, {mapping->base}, {0, 0}};
+        return (struct call){operation, {mapping->base}, {0}};
     case OP_LOAD:
     case OP_STORE:
-        return (struct call){operation, {mapping->base + draw(seed, mapping->pages), word}, {0, 0}};
+        return (struct call){operation, {mapping->base + draw(seed, mapping->pages), word}, {0}};
     case OP_TRUNC:
-        return (struct call){operation, {file, from}, {0, 0}};
+        return (struct call){operation, {file, from}, {0}};
     default:
-        return (struct call){operation, {file, from, pages}, {0, 0}};
+        return (struct call){operation, {file, from, pages}, {0}};
     }
 }
 

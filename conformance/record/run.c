@@ -450,6 +450,7 @@ void run_scripts(const struct scripts *scripts, size_t from, const char *mount_p
         is_right = run_script(&scripts->all[k], mount_point);
         check_written();
     }
+    end_denials();
     tell("%zu scripts recorded, %zu lines", k - from, lines_written);
     if (is_right)
         return;

@@ -219,9 +219,12 @@ static struct words without_second(const struct words *words)
 static struct denial denial_of(const struct reader *reader, char *word)
 {
     char *last = word, *first = strsep(&last, "-");
-    unsigned from = number_from(reader, first, 1, MOST_DENIED);
+    unsigned from;
 
-    return (struct denial){from, last ? number_from(reader, last, from, MOST_DENIED) : from};
+    if (!strcmp(first, "charged") && !last)
+        return (struct denial){1, 1, .is_charged = true};
+    from = number_from(reader, first, 1, MOST_DENIED);
+    return (struct denial){.first = from, .last = last ? number_from(reader, last, from, MOST_DENIED) : from};
 }
 
 static void read_hold(struct reader *reader, const struct words *words, struct line *line)
@@ -230,7 +233,7 @@ static void read_hold(struct reader *reader, const struct words *words, struct l
     struct words rest;
 
     if (words->count < 4)
-        bad(reader, "a call that is held is 'hold FUNCTION [deny FIRST-LAST] TASK CALL ..'");
+        bad(reader, "a call that is held is 'hold FUNCTION [deny FIRST-LAST|charged] TASK CALL ..'");
     rest = without_second(words);
     if (is_denied) {
         rest = without_second(&rest);
@@ -248,7 +251,7 @@ static void read_deny(const struct reader *reader, const struct words *words, st
     struct words rest;
 
     if (words->count < 4)
-        bad(reader, "a call that is denied memory is 'deny FIRST[-LAST] TASK CALL ..'");
+        bad(reader, "a call that is denied memory is 'deny FIRST[-LAST]|charged TASK CALL ..'");
     rest = without_second(words);
     read_begin(reader, &rest, line);
     line->kind = LINE_DENY;

@@ -2,6 +2,7 @@
 #ifndef SCRIPT_H
 #define SCRIPT_H
 
+#include <stdbool.h>
 #include <stddef.h>
 #include <stdint.h>
 
@@ -41,9 +42,11 @@ enum operation {
 
 #define RACE_LETTERS "mnulsakpt"
 
-/* Allocations of kernel memory that a call is denied: the first, counted from 1, and the last; 0 and 0 where none is. */
+/* Allocations of kernel memory that a call is denied: the first, counted from 1, and the last; or those that are charged to its
+ * task's memory cgroup, first = last = 1 then; 0 and 0 where none is. */
 struct denial {
     unsigned first, last;
+    bool is_charged;
 };
 
 /* An operation with its numbers, in the order of the line, and what it is denied. */
