@@ -85,8 +85,9 @@ class Kernel:
     is_slow: bool = False
     # where the consoles of its machines are kept, if they are
     consoles: Path | None = None
-    # what boots one that stays, if it can
+    # what boots one that stays, if it can; and how long it may be silent, in seconds
     staying: tuple[str | Path, ...] = ()
+    patience: int = BOOT
 
     def record(self, text: str, lines: int, has_races: bool = False) -> str:
         """What the kernel answers to the scripts of a text, which has so many lines to be answered."""
@@ -245,8 +246,13 @@ class Emulation:
     # the size of the huge pages that are used, in KiB
     page: int = PAGE
 
+    @property
+    def patience(self) -> int:
+        """How many seconds it may take to boot."""
+        return max(BOOT, self.seconds // 5)
+
     def words(self) -> list[str]:
-        words = ["--leave", "--cpus", str(self.cpus), "--seconds", str(self.seconds), "--boot-seconds", str(max(BOOT, self.seconds // 5))]
+        words = ["--leave", "--cpus", str(self.cpus), "--seconds", str(self.seconds), "--boot-seconds", str(self.patience)]
         words += ["--memory", str(self.memory)] if self.memory else []
         words += ["--page", str(self.page)] if self.page != PAGE else []
         append = " ".join(it for it in ("panic_on_warn=1" if self.panics_on_warning else "", self.append) if it)
@@ -259,8 +265,8 @@ def emulated(kernel: Path, name: str, how: Emulation) -> Kernel:
     need(*EMULATING[processor], "cpio", "cc", "setpriv")
     accel = accelerator() if processor == "x86_64" else "tcg"
     options = ["--kernel", kernel, *how.words(), "--accel", accel]
-    staying = (RECORD / "emulate.sh", *options, "--stay")
-    return Kernel(name, lambda scripts, _: [RECORD / "emulate.sh", *options, scripts], accel == "tcg", how.consoles, staying)
+    command = [RECORD / "emulate.sh", *options]
+    return Kernel(name, lambda scripts, _: [*command, scripts], accel == "tcg", how.consoles, (*command, "--stay"), how.patience)
 
 
 def processor_of(image: Path) -> str:

@@ -19,8 +19,8 @@ from kernel.kernels import WITH_US, Kernel, odd, reason, stop
 from kernel.problem import Problem
 from kernel.suites import text_of
 
-# it is looked so often whether a machine has answered, in seconds; and one that answers nothing for so long hangs
-LOOK, HANGS = 0.05, 120.0
+# it is looked so often whether a machine has answered, in seconds
+LOOK = 0.05
 # the name of the state behind the boot
 STATE = "booted"
 # what the recorder ends with where the kernel has lost count, and scripts are left
@@ -92,7 +92,7 @@ class Standing:
             time.sleep(LOOK)
             before, size = size, len(text_at(self.folder / "recorded"))
             heard = time.monotonic() if size != before else heard
-            if self.ran.poll() is not None or time.monotonic() - heard > HANGS:
+            if self.ran.poll() is not None or time.monotonic() - heard > self.kernel.patience:
                 raise Problem(self.why())
 
     def why(self) -> str:
@@ -101,7 +101,7 @@ class Standing:
         if ended := console.found or odd(told):
             return f"the kernel ended it: {ended.what}"
         if self.ran.poll() is None:
-            return f"the machine hasn't answered for {HANGS:.0f} s"
+            return f"the machine hasn't answered for {self.kernel.patience} s"
         return reason(told, self.ran.returncode)
 
     def recorded(self, some: list[Script]) -> tuple[str, int]:
