@@ -35,7 +35,7 @@ BY_COUNTS_ALONE = "truncations, resizes; answers and pages (counts at rest are c
 HELD, DENIED, CHARGED = "held", "denied", "charged"
 # what no suite has
 NOWHERE = "private mappings, fork of a task that maps, mremap, userfaultfd, minimum sizes (min_size=), surplus pages (overcommit), \
-control groups, NUMA, migration, memory failures (poison), pages of other sizes than 2 MiB"
+control groups, NUMA, migration, memory failures (poison), pages of other sizes (--page KIB)"
 SUITES = {
     it.name: it
     for it in (
