@@ -22,8 +22,8 @@ from kernel.standing import Standing, can_stay
 from kernel.suites import race_calls, text_of
 from kernel.testing import check_whole, compared, parsed
 
-# a boot asks at most so many calls
-MOST_CALLS = 6000
+# a round asks at most so many calls, and so many of scripts that are judged by their counts: each that is wrong has the machine go back
+MOST_CALLS, MOST_BY_COUNTS = 6000, 800
 MOST_ROUNDS = 30
 # of a script so short all pairs of changes are tried
 SHORT = 6
@@ -68,7 +68,7 @@ def named(candidates: Iterator[Script], least: tuple[int, int]) -> list[Script]:
     kept, calls = [], 0
     for it in sorted(different.values(), key=size):
         calls += len(it.lines) * tries_of(it)
-        if calls <= MOST_CALLS:
+        if calls <= (MOST_BY_COUNTS if is_by_counts(it) else MOST_CALLS):
             kept.append(Script(f"m.{len(kept)}", it.header, it.lines))
     return kept
 
