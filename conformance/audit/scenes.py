@@ -141,7 +141,7 @@ def dumped(options: argparse.Namespace, room: Path) -> None:
 
 def dump_all(options: argparse.Namespace, monitor: Path) -> None:
     """Dumps once, or several times with a wait between."""
-    it = Monitor(monitor, 600) if options.dump else None
+    it = Monitor(monitor) if options.dump else None
     for number in range(options.dumps if it else 0):
         time.sleep(options.settle)
         began = time.monotonic()

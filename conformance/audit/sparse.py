@@ -97,7 +97,7 @@ class Memory:
     def __init__(self, machine: int, monitor: Path) -> None:
         folder = Path(f"/proc/{machine}/fd")
         link = next(it for it in folder.iterdir() if "memfd:memory-backend" in os.readlink(it))
-        self.file, self.monitor = os.open(link, os.O_RDWR), Monitor(monitor, 600)
+        self.file, self.monitor = os.open(link, os.O_RDWR), Monitor(monitor)
         self.full: set[int] = set()
 
     def shrink(self) -> None:

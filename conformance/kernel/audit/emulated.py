@@ -12,7 +12,7 @@ from kernel.problem import Problem
 class Monitor:
     """QEMU's monitor, by QMP."""
 
-    def __init__(self, path: Path, timeout: float = 120.0) -> None:
+    def __init__(self, path: Path, timeout: float = 600.0) -> None:
         self.socket = socket.socket(socket.AF_UNIX)
         self.socket.settimeout(timeout)
         self.socket.connect(str(path))
