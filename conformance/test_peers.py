@@ -203,11 +203,13 @@ REFUSED = "alloc 0 0 1: answer done, seen noframe"
 def faults_of_groups() -> Iterator[tuple[str, object]]:
     """That 70 assertions of one cause are one line, that other causes keep theirs, and that the same cause is told once."""
     found = Tested(PEERS, "7", [broken_ones("a", LOW, *[REFUSED] * 39), broken_ones("b", *["punch 1 2 3: free 9, seen 5"] * 30)])
-    lines = [f"new: a, call 1: begin 1 {LOW.replace(': ', ': the peer asserts ')} (and 69 more assertions like it or behind it, in 2 scripts)"]
+    first = f"new: a, call 1: begin 1 {LOW.replace(': ', ': the peer asserts ')}"
+    lines = [f"{first} (and 69 more assertions like it or behind it, in 2 scripts)"]
     yield "70 assertions are one line", report.news([found]) == lines or report.news([found])
     yield "they are counted as scripts", found.new == 2 or found.new
     yield "JSON has each", report.json_text([found], "x").count("the peer asserts") == 70
-    others = [broken_ones("c", HIGH), broken_ones("d", REFUSED), broken_ones("e", "map 0 0 1: free 3, seen 2"), broken_ones("f", "punch 0 0 1: free not 3, seen 3")]
+    texts = {"c": HIGH, "d": REFUSED, "e": "map 0 0 1: free 3, seen 2", "f": "punch 0 0 1: free not 3, seen 3"}
+    others = [broken_ones(script, text) for script, text in texts.items()]
     both = Tested(PEERS, "7", [*found.results, *others])
     yield "another side, field, call or word is another cause", len(report.news([both])) == 5 or report.news([both])
     run, said = command_line.Running(SimpleNamespace(first=False, bisect=False), "x", 1), io.StringIO()

@@ -40,7 +40,8 @@ def room_of(room: Path, scripts: Path) -> Path:
 def follow(options: argparse.Namespace, image: Path, symbols: Path, room: Path) -> Counter[str]:
     found: Counter[str] = Counter()
     chance = random.Random(options.seed)
-    words = scene_parser().parse_args(["--kernel", str(image), "--job", JOB, "--tree", str(room_of(room, options.scripts)), "--seconds", "1800"])
+    tree = str(room_of(room, options.scripts))
+    words = scene_parser().parse_args(["--kernel", str(image), "--job", JOB, "--tree", tree, "--seconds", "1800"])
     with running(words, room):
         monitor = Monitor(room / "monitor")
         for number in range(options.dumps):

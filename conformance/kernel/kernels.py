@@ -33,8 +33,11 @@ ODD = (
     (r"record: task (\d+) died of signal ((?:4|5|7|8|11) \(.*\))", "a call of task {0} ended in signal {1}"),
     (r"record: before script (\S+) the kernel keeps (\d+) huge pages that nobody should use", "{1} huge pages are still in use before script {0}, and nobody has them"),
 )
-COMMANDS = {"qemu-system-x86_64": "qemu-system-x86", "qemu-system-aarch64": "qemu-system-arm",
-            "aarch64-linux-gnu-gcc": "gcc-aarch64-linux-gnu libc6-dev-arm64-cross", "cpio": "cpio", "cc": "build-essential", "setpriv": "util-linux"}
+COMMANDS = {
+    "qemu-system-x86_64": "qemu-system-x86", "qemu-system-aarch64": "qemu-system-arm",
+    "aarch64-linux-gnu-gcc": "gcc-aarch64-linux-gnu libc6-dev-arm64-cross",
+    "cpio": "cpio", "cc": "build-essential", "setpriv": "util-linux",
+}  # fmt: skip
 # what emulates a processor, beside the C compiler for this machine's own
 EMULATING = {"x86_64": ("qemu-system-x86_64",), "aarch64": ("qemu-system-aarch64", "aarch64-linux-gnu-gcc")}
 # the size of huge pages, in KiB, unless it is said
