@@ -21,6 +21,8 @@
 
 /* so many seconds a process may stay in the group */
 enum { PATIENCE = 5 };
+/* what a process touches of its stack before, page by page */
+enum { STACK_TOUCHED = 65536, BASE_PAGE = 4096 };
 
 static bool write_word(const char *path, const char *word)
 {
@@ -106,6 +108,21 @@ static void leave_group(int number)
         fail_errno("leaving a control group");
 }
 
+/* In the group a process can't have a page of its own either: not for a signal's frame, nor for what it shares with its parent. */
+static void touch_own(const volatile char *shared, size_t size)
+{
+    extern char __data_start[], _end[];
+    volatile char stack[STACK_TOUCHED];
+
+    for (size_t k = 0; k < sizeof stack; k += BASE_PAGE)
+        stack[k] = 0;
+    for (uintptr_t at = (uintptr_t)__data_start; at < (uintptr_t)_end; at = (at / BASE_PAGE + 1) * BASE_PAGE)
+        *(volatile char *)at = *(volatile char *)at;
+    for (size_t k = 0; k < size; k += BASE_PAGE)
+        (void)shared[k];
+    errno = 0;
+}
+
 static void enter_group(void)
 {
     if (!own.may_be_poor) {
@@ -120,11 +137,13 @@ static void enter_group(void)
     alarm(PATIENCE);
 }
 
-void begin_denial(struct denial denial)
+void begin_denial(struct denial denial, const void *shared, size_t size)
 {
     own.is_denying = denial.first && !denial.is_charged;
-    if (denial.is_charged)
+    if (denial.is_charged) {
+        touch_own(shared, size);
         enter_group();
+    }
     if (!own.is_denying)
         return;
     if (!own.is_open) {

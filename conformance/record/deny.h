@@ -3,6 +3,7 @@
 #define DENY_H
 
 #include <stdbool.h>
+#include <stddef.h>
 
 #include "script.h"
 
@@ -12,8 +13,9 @@ bool ready_denial(struct denial denial);
 /* Takes back what was readied, where all calls have ended. */
 void end_denials(void);
 
-/* In a task's process: has its allocations fail from the first of a denial to the last, if it is one. */
-void begin_denial(struct denial denial);
+/* In a task's process: has its allocations fail from the first of a denial to the last, if it is one. `shared` is what the process
+ * has in common with others, and works on meanwhile. */
+void begin_denial(struct denial denial, const void *shared, size_t size);
 
 /* Has none fail any more. */
 void end_denial(void);

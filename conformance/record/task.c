@@ -21,7 +21,7 @@ static _Noreturn void answer_all(struct desk *desk, struct files files, int line
     char byte;
 
     while (read(line, &byte, 1) == 1) {
-        begin_denial(desk->call.denial);
+        begin_denial(desk->call.denial, desk, sizeof *desk);
         make_call(desk, files);
         end_denial();
         if (write(line, &byte, 1) != 1)
