@@ -49,7 +49,8 @@ shape p listed limit =
 same_page : (x y : ℕ × ℕ × ℕ) → (x ≡ y) ⊎ (x ≡ y → ⊥)
 same_page x y = by (cases_eq x.0 y.0) (cases_eq x.1 y.1) (cases_eq x.2 y.2)
   where
-    by : (x.0 ≡ y.0) ⊎ (x.0 ≡ y.0 → ⊥) → (x.1 ≡ y.1) ⊎ (x.1 ≡ y.1 → ⊥) → (x.2 ≡ y.2) ⊎ (x.2 ≡ y.2 → ⊥) → (x ≡ y) ⊎ (x ≡ y → ⊥)
+    by : (x.0 ≡ y.0) ⊎ (x.0 ≡ y.0 → ⊥) → (x.1 ≡ y.1) ⊎ (x.1 ≡ y.1 → ⊥) → (x.2 ≡ y.2) ⊎ (x.2 ≡ y.2 → ⊥)
+        → (x ≡ y) ⊎ (x ≡ y → ⊥)
     by (inl a) (inl b) (inl c) = inl (λ i. (a i, b i, c i))
     by (inr not) other another = inr (λ same. not (ap (λ (t : ℕ × ℕ × ℕ). t.0) same))
     by (inl a) (inr not) another = inr (λ same. not (ap (λ (t : ℕ × ℕ × ℕ). t.1) same))

@@ -3,7 +3,8 @@
 //!
 //! It stands on the crates that explore, search and race, on hp_program's frame for outputs, and on hp_command for what is asked. It
 //! promises of each command what is answered, and what was read and written then (`Runs.antt`, `Hunting.antt`, `Racing.antt`,
-//! `Searching.antt`, `Tabling.antt`, `Choosing.antt`, `Summing.antt`). What it says on standard error of a search's progress and of the run that was found is only tested.
+//! `Searching.antt`, `Tabling.antt`, `Choosing.antt`, `Summing.antt`). What it says on standard error of a search's progress and of the run
+//! that was found is only tested.
 #![tactic(auto)]
 
 mod choosing;
