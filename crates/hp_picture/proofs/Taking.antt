@@ -63,7 +63,8 @@ regrouped : (a b d e f g h rest : List ℕ)
     → (a ++ (b ++ (d ++ (e ++ (f ++ (g ++ h)))))) ++ rest ≡ a ++ (b ++ (d ++ (e ++ (f ++ (g ++ (h ++ rest))))))
 regrouped a b d e f g h rest = simp (append_assoc) refl
 
-abbrev places : List ℕ → List ℕ → List ℕ → List (ℕ × Bool) → List (ℕ × ℕ × ℕ) → List (ℕ × ℕ × ℕ) → List (ℕ × ℕ × ℕ × ℕ)
+abbrev places : List ℕ → List ℕ → List ℕ → List (ℕ × Bool) → List (ℕ × ℕ × ℕ) → List (ℕ × ℕ × ℕ)
+    → List (ℕ × ℕ × ℕ × ℕ)
     → PlacesState
 places free retired hands files regions pages tables =
     record { free = free; retired = retired; hands = hands; files = files; regions = regions; pages = pages; tables = tables }
