@@ -11,41 +11,9 @@ use crate::codes::{IS_CLOSED, NO_MEMORY, NO_SUCH, OK, TOO_SMALL};
 use hp_base::{Answer, Event, Op};
 use hp_core::Core;
 use hp_handle::Handle;
+use hp_replay::next_outcome;
 use hp_words::{EventWords, OutcomeWords};
 use std::alloc::Global;
-
-/// The outcome of an event that is held back, where it is looked for.
-fn look(core: &Core, event: &Event, is_looked_for: bool) -> Option<OutcomeWords>
-    ensures { IfSome result (λ words. Happened (Some core.now) (Some event.now) words (Some core.now)) }
-{
-    // The checker of borrows asks for a mention of the type that an outcome may hold.
-    let _none: Option<Answer> = None;
-    if !is_looked_for {
-        return None;
-    }
-    match core.held_back(*event) {
-        Some(outcome) => Some(OutcomeWords::of(outcome)),
-        None => None,
-    }
-}
-
-/// An event of the core. A look costs less than a step that is held back, and more than nothing: so it is taken where the event before
-/// was held back, too.
-fn tell(core: &mut Core, event: Event, was_held_back: bool) -> Result<OutcomeWords, u32>
-    ensures ok { IfOk result (λ words. Happened (Some core.old) (Some event) words (Some core.new)) }
-    ensures err { IfErr result (λ code. core.new ≡ core.old) }
-    ensures code { IfErr result (λ code. IsEventRefused (Some core.old) (Some event) code) }
-{
-    // The checker of borrows asks for a mention of the types that an event and an outcome may hold.
-    let _none: (Option<Answer>, Option<Op>) = (None, None);
-    if let Some(words) = look(core, &event, was_held_back) {
-        return Ok(words);
-    }
-    match core.step(event) {
-        Ok(outcome) => Ok(OutcomeWords::of(outcome)),
-        Err(_) => Err(NO_MEMORY),
-    }
-}
 
 /// The event of the core that the numbers name.
 fn happen(core: &mut Core, event: EventWords, was_held_back: bool) -> Result<OutcomeWords, u32>
@@ -58,7 +26,10 @@ fn happen(core: &mut Core, event: EventWords, was_held_back: bool) -> Result<Out
     let Some(event) = event.event() else {
         return Err(NO_SUCH);
     };
-    tell(core, event, was_held_back)
+    match next_outcome(core, event, was_held_back) {
+        Ok(outcome) => Ok(OutcomeWords::of(outcome)),
+        Err(_) => Err(NO_MEMORY),
+    }
 }
 
 /// One event: a row of the machine, with its outcome. Where the pool is closed, the numbers name no event, or there is no memory for

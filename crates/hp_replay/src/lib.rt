@@ -8,6 +8,7 @@
 
 mod laws;
 mod line_buffer;
+mod next;
 mod outcomes;
 mod replaying;
 mod state;
@@ -18,5 +19,6 @@ pub use hp_text::{
     what_is_held_is_spelled, write_count, write_text, write_trace,
 };
 pub use laws::{a_replay_is_one, a_stopped_replay_names_the_fault};
+pub use next::next_outcome;
 pub use replaying::replay;
 pub use state::push_state;

@@ -5,7 +5,7 @@ ghost use Rattle.std.specs.Option.{option_map};
 ghost use Rattle.std.specs.Io.BufRead.{take_through};
 ghost use Rattle.std.specs.Io.KnownBytes.{Appends, Keeps};
 ghost use Rattle.hp_base.specs.declared.event.Event.TheVariants.{Step};
-ghost use Rattle.hp_core.specs.Runs.{Row, IsIdle};
+ghost use Rattle.hp_core.specs.Runs.{IsIdle};
 ghost use Rattle.hp_text.specs.Lines.{line_of, event, listed, end_of};
 ghost use Rattle.hp_replay.specs.Outcomes.{state_text};
 ghost use Rattle.hp_text.specs.Traces.{IsLineFault};
@@ -15,6 +15,7 @@ ghost use Rattle.hp_replay.specs.Replaying.{Replayed, Stopped};
 ghost use Rattle.hp_text.specs.Streams.{TellsReads, TellsWrites};
 
 use crate::line_buffer::LineBuffer;
+use crate::next::next_outcome;
 use crate::outcomes::push_outcome;
 use crate::state::push_state;
 use hp_base::{Answer, Event, Op, Task};
@@ -22,29 +23,6 @@ use hp_core::Core;
 use hp_machine::Outcome;
 use hp_text::{PIECE, ReplayFault, Sink, Source, TraceFeed, TraceLine, write_text};
 use std::alloc::{AllocError, Global};
-
-/// The outcome of an event that is held back, where it is looked for. Such an event changes nothing.
-#[inline(always)]
-fn look(core: &Core, event: &Event, is_looked_for: bool) -> Option<Outcome>
-    ensures { IfSome result (λ outcome. Row core.now event.now outcome core.now) }
-{
-    if !is_looked_for {
-        return None;
-    }
-    core.held_back(*event)
-}
-
-/// Runs an event. A look costs less than a step that is held back, and more than nothing: so it is taken where the event before
-/// was held back, too.
-#[inline(always)]
-fn tell(core: &mut Core, event: Event, was_held_back: bool) -> Result<Outcome, AllocError>
-    ensures { IfOk result (λ outcome. Row core.old event outcome core.new) }
-{
-    if let Some(outcome) = look(core, &event, was_held_back) {
-        return Ok(outcome);
-    }
-    core.step(event)
-}
 
 /// Whether the outcome is one of an event that is held back.
 fn is_held_back(outcome: &Outcome) -> bool
@@ -71,7 +49,7 @@ fn run_event(
     let _none: Option<Answer> = None;
     match core {
         Some(core) => {
-            let outcome = tell(core, event, *held_back)?;
+            let outcome = next_outcome(core, event, *held_back)?;
             *held_back = is_held_back(&outcome);
             push_outcome(lines, outcome)
         }

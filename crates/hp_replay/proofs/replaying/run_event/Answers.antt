@@ -5,6 +5,6 @@ use Rattle.hp_replay.proofs.replaying.run_event.Goals as goal
 
 pub returns-clause-ok : goal.returns-clause-ok
 returns-clause-ok c =
-    event_ran c.args.core.now c.in-Some.core c.tell.new.core (lines.Event c.args.event) c.args.event
-    c.in_ok-outcome-in-Some.outcome _ _ c.push_outcome.result refl c.in-Some.is c.in_ok-outcome-in-Some.ensures
+    event_ran c.args.core.now c.in-Some.core c.next_outcome.new.core (lines.Event c.args.event) c.args.event
+    c.in_ok-outcome-in-Some.outcome _ _ c.push_outcome.result refl c.in-Some.is c.in_ok-outcome-in-Some.ensures.row
     c.push_outcome.ensures.ok

@@ -5,7 +5,7 @@ use Rattle.hp_machine.specs.declared.outcome.Outcome.{Outcome}
 use Rattle.hp_core.specs.State.{CoreState}
 use Rattle.hp_core.specs.HeldBack.{HeldBack}
 use Rattle.hp_core.specs.Runs.{Row}
-use Rattle.hp_replay.proofs.replaying.look.Goals as goal
+use Rattle.hp_replay.proofs.next.look.Goals as goal
 
 held_row : (s : CoreState) (e : Event) (o : Option Outcome) → HeldBack s e o → IfSome o (λ outcome. Row s e outcome s)
 unfolding HeldBack
