@@ -266,7 +266,7 @@ pub(crate) const STATES: Choice = Choice {
     name: "states",
     form: "N",
     takes: Takes::Number(Some("1000000"), 1, 4_294_967_295),
-    help: "With --every: maximum number of states kept at once, some 1.5 kB each",
+    help: "With --every: maximum number of states kept at once, some 500 bytes each",
     conflicts: &[],
     needs: &["every"],
 };

@@ -20,7 +20,7 @@ use Rattle.hp_every.specs.declared.turn.Turn.{Turn}
 use Rattle.hp_every.specs.Schedules as schedules
 use Rattle.hp_every.specs.Schedules.{MayTurn, NoScheduleMeets, Place, ScheduleMeets, plan_for}
 use Rattle.hp_every.specs.Search.{AreAsGood, AreBehind, Question, GoesOn, HasTurns, IsPath, IsRun, MayGoOn, MeetsHere, PathState}
-use Rattle.hp_every.specs.Search.{search_words}
+use Rattle.hp_every.specs.Search.{search_key}
 use Rattle.hp_every.specs.Turns.{AreAllTurns, turn_of, turns_of}
 use Rattle.hp_every.proofs.Good.{by_path, know_by_turns, last_turn, run_of, same_by_turns}
 use Rattle.hp_every.proofs.Knowing.{meets_there}
@@ -131,7 +131,7 @@ path_of : (a : Question) (f : CoreState) (ms : List Moment) (p : Place) → IsRu
     → MeetsHere (plan_for a.script) a.conditions f ms p ⊎ (MeetsHere (plan_for a.script) a.conditions f ms p → ⊥)
     → (s : PathState) × IsPath a s × (s.turns ≡ turns_of ms)
 path_of a f ms p run known know (inl meets) = (
-  record { turns = turns_of ms; key = search_words known p; met = true },
+  record { turns = turns_of ms; key = search_key known p; met = true },
   record {
     first = f;
     moments = ms;
@@ -146,7 +146,7 @@ path_of a f ms p run known know (inl meets) = (
   refl,
 )
 path_of a f ms p run known know (inr none) = (
-  record { turns = turns_of ms; key = search_words known p; met = false },
+  record { turns = turns_of ms; key = search_key known p; met = false },
   record {
     first = f;
     moments = ms;

@@ -14,8 +14,11 @@ use Rattle.hp_hunt.specs.Watching.{AllKnow, Known}
 use Rattle.hp_hunt.specs.declared.condition.Condition.{Condition}
 use Rattle.hp_hunt.specs.declared.condition.PoolCount.TheVariants.{Resv, Free, Used}
 use Rattle.hp_key.specs.Numbers.{answer_words, wide}
+use Rattle.hp_key.specs.Packed.{packed, word_bytes}
 use Rattle.hp_key.proofs.Calls.{own_answer}
 use Rattle.hp_key.proofs.Tells.{Own, cons_same, tells_wide}
+use Rattle.hp_key.proofs.Unpacking.{unpacked}
+use Rattle.std.proofs.lemmas.List.Concat.{flat_map-append}
 use Rattle.hp_layers.specs.Ended.{EndsAlike}
 use Rattle.hp_layers.specs.Layers.{IsAsGood, IsReached}
 use Rattle.hp_layers.specs.Named.{AreNamed, LeadsBy}
@@ -24,9 +27,9 @@ use Rattle.hp_watch.specs.Moments.{Moment}
 use Rattle.hp_watch.specs.declared.calls.EndedCall.{EndedCall}
 use Rattle.hp_every.specs.declared.turn.Turn.{Turn}
 use Rattle.hp_every.specs.Endings.{AreEndsAlike, EndState, Ended, GoesBy, GoesOnBy, IsEndState, IsEnding, all_among, answers_in}
-use Rattle.hp_every.specs.Endings.{answers_words, ended_at, ended_call_words, ended_words}
+use Rattle.hp_every.specs.Endings.{answers_words, ended_at, ended_call_words, ended_key, ended_words}
 use Rattle.hp_every.specs.Schedules.{AnyTurn, Ends, MayTurn, Place, plan_for}
-use Rattle.hp_every.specs.Search.{AreAsGood, HasTurns, IsRun, MeetsHere, PathState, Question, call_number, search_words}
+use Rattle.hp_every.specs.Search.{AreAsGood, HasTurns, IsRun, MeetsHere, PathState, Question, call_number, search_key, search_words}
 use Rattle.hp_every.specs.Turns.{AreAllTurns, turn_of, turns_of}
 use Rattle.hp_every.proofs.Answers.{may_at, tracking}
 use Rattle.hp_every.proofs.Good.{also_goes, before_last, by_key, by_number, by_path, follows_by, know_by_turns, last_turn, named, onward, other_goes}
@@ -98,7 +101,7 @@ unfolding IsEnding
 ending_there a p q f g ms ns here there same answers None none = λ over. none (over_there a q p g f ns ms there here (turned_round p q same) over)
 ending_there a p q f g ms ns here there same answers (Some words) some = (
   over_there a p q f g ms ns here there same some.0,
-  some.1 ∙ ap ended_words (counts_same a p q f g ms ns here there same answers),
+  some.1 ∙ ap ended_key (counts_same a p q f g ms ns here there same answers),
 )
 
 -- and so it is of schedules of the same turns
@@ -161,9 +164,10 @@ tells_answers xs ys ss ts e =
     let all = tells_list tells_ended xs ys ss ts count.0 count.1 in
     (sym (map-id xs) ∙ (all.0 ∙ map-id ys), all.1)
 
--- an ending is told by its words
-pub one_ended : (d e : Ended) → ended_words d ≡ ended_words e → d ≡ e
-one_ended d e same =
+-- an ending is told by its key
+pub one_ended : (d e : Ended) → ended_key d ≡ ended_key e → d ≡ e
+one_ended d e bytes =
+    let same = unpacked (ended_words d) (ended_words e) bytes in
     let free = cons_same d.free e.free (d.resv ∷ d.used ∷ answers_words d.answers) (e.resv ∷ e.used ∷ answers_words e.answers) same in
     let resv = cons_same d.resv e.resv (d.used ∷ answers_words d.answers) (e.used ∷ answers_words e.answers) free.1 in
     let used = cons_same d.used e.used (answers_words d.answers) (answers_words e.answers) resv.1 in
@@ -172,8 +176,15 @@ one_ended d e same =
 
 pub ends_by_key : (a : Question) (s t : EndState) → IsEndState a s → IsEndState a t → s.key ≡ t.key → AreEndsAlike a s t
 ends_by_key a s t x y same =
-    let both = tells_answers (answers_in x.path.moments) (answers_in y.path.moments) s.path.key t.path.key (sym x.key ∙ (same ∙ y.key)) in
-    ends_alike_of a s t x y (by_key a s.path t.path x.path y.path both.1) both.0
+    let here = search_words x.path.known x.path.last in
+    let there = search_words y.path.known y.path.last in
+    let bytes : packed (answers_words (answers_in x.path.moments) ++ here) ≡ packed (answers_words (answers_in y.path.moments) ++ there) =
+    flat_map-append word_bytes (answers_words (answers_in x.path.moments)) here
+    ∙ (ap (λ (key : List ℕ). packed (answers_words (answers_in x.path.moments)) ++ key) (sym x.path.key) ∙ (sym x.key ∙ (same ∙ (y.key
+    ∙ (ap (λ (key : List ℕ). packed (answers_words (answers_in y.path.moments)) ++ key) y.path.key
+    ∙ sym (flat_map-append word_bytes (answers_words (answers_in y.path.moments)) there)))))) in
+    let both = tells_answers (answers_in x.path.moments) (answers_in y.path.moments) here there (unpacked _ _ bytes) in
+    ends_alike_of a s t x y (by_key a s.path t.path x.path y.path (x.path.key ∙ (ap packed both.1 ∙ sym y.path.key))) both.0
 
 -- ---- the same futures
 
@@ -229,7 +240,7 @@ ends_follow a s t after next x goes =
     let on : Same f.3.here.last f.3.there.last = record { on = f.3.alike; back = f.3.back } in
     let same : Same z.last p.last = same_then z.last f.3.here.last p.last (same_by_turns a after.path.turns (run_of a after.path z) f.3.here)
     (same_then f.3.here.last f.3.there.last p.last on (same_by_turns a f.0.turns f.3.there (run_of a f.0 p))) in
-    let u : EndState = record { path = f.0; key = answers_words (answers_in p.moments) ++ f.0.key; ending = after.ending } in
+    let u : EndState = record { path = f.0; key = packed (answers_words (answers_in p.moments)) ++ f.0.key; ending = after.ending } in
     let state : IsEndState a u = record {
       path = p;
       key = refl;
@@ -306,8 +317,8 @@ state_of_run : (a : Question) → a.conditions ≡ [] → (f : CoreState) (ms : 
 state_of_run a none f ms p run o ending =
     let known = known_of_none a none ms in (
       record {
-        path = record { turns = turns_of ms; key = search_words known.0 p; met = true };
-        key = answers_words (answers_in ms) ++ search_words known.0 p;
+        path = record { turns = turns_of ms; key = search_key known.0 p; met = true };
+        key = packed (answers_words (answers_in ms)) ++ search_key known.0 p;
         ending = o;
       },
       record {
@@ -395,28 +406,28 @@ leads_so a first is empty (suc n) names s (before, u, next, leads, goes, longer)
 
 -- a state that ends is that of a schedule that is over and ends so
 pub ends_so_at : (a : Question) (s : EndState) (x : IsEndState a s) (words : List ℕ) → s.ending ≡ Some words
-    → Ends (plan_for a.script) x.path.last × (words ≡ ended_words (ended_at x.path.moments x.path.last.core))
+    → Ends (plan_for a.script) x.path.last × (words ≡ ended_key (ended_at x.path.moments x.path.last.core))
 unfolding IsEnding
 ends_so_at a s x words is = taken (subst (IsEnding (plan_for a.script) x.path.moments x.path.last) is x.ending)
   where
     taken : IsEnding (plan_for a.script) x.path.moments x.path.last (Some words)
-        → Ends (plan_for a.script) x.path.last × (words ≡ ended_words (ended_at x.path.moments x.path.last.core))
+        → Ends (plan_for a.script) x.path.last × (words ≡ ended_key (ended_at x.path.moments x.path.last.core))
     taken h = h
 
 -- and so is each of the same turns
 pub ends_there_too : (a : Question) (s : EndState) (x : IsEndState a s) (words : List ℕ) → s.ending ≡ Some words
     → (y : HasTurns a s.path.turns)
-    → Ends (plan_for a.script) y.last × (words ≡ ended_words (ended_at y.moments y.last.core))
+    → Ends (plan_for a.script) y.last × (words ≡ ended_key (ended_at y.moments y.last.core))
 ends_there_too a s x words is y =
     let h = ends_so_at a s x words is in
     let here = run_of a s.path x.path in
     let same = same_by_turns a s.path.turns here y in (
       over_there a x.path.last y.last x.path.first y.first x.path.moments y.moments x.path.run y.run same h.0,
-      h.1 ∙ ap ended_words (counts_same a x.path.last y.last x.path.first y.first x.path.moments y.moments x.path.run y.run same
+      h.1 ∙ ap ended_key (counts_same a x.path.last y.last x.path.first y.first x.path.moments y.moments x.path.run y.run same
           (answers_by_turns a s.path.turns here y)),
     )
 
 pub ending_of_words : (plan : Plan) (ms : List Moment) (p : Place) → Ends plan p
-    → IsEnding plan ms p (Some (ended_words (ended_at ms p.core)))
+    → IsEnding plan ms p (Some (ended_key (ended_at ms p.core)))
 unfolding IsEnding
 ending_of_words plan ms p over = (over, refl)

@@ -1,4 +1,4 @@
--- Places with equal words have equal futures.
+-- Places that turns lead to are reached, and those with equal words differ in the names of frames alone.
 use Rattle.std.proofs.Common.{◌≡◌, ℕ, refl, ap, sym, ◌∙◌, subst, List, [], ◌∷◌, ◌++◌}
 use Rattle.std.specs.Prelude.{is_some, IsSomeAnd}
 use Rattle.std.specs.Option.{option_map}
@@ -24,7 +24,7 @@ use Rattle.hp_key.proofs.Same.{same_key}
 use Rattle.hp_key.proofs.Tells.{cons_same, tells_wide}
 use Rattle.hp_explore.specs.Schedule.{Plan}
 use Rattle.hp_every.specs.Schedules.{Place, AnyTurn, Leads, first_place, plan_for}
-use Rattle.hp_every.specs.Places.{AreOne, IsPlaceOf, place_words}
+use Rattle.hp_every.specs.Places.{AreAlike, IsPlaceOf, place_words}
 use Rattle.hp_every.proofs.Looks.{LooksAlike, turn_there}
 
 -- a place that turns lead to is reached, and has the sizes of the first
@@ -49,9 +49,9 @@ place_reached script p h =
     let there = led (plan_for script) (first_place script h.denials h.kills h.first) h.moments p h.schedule.leads opens in
     (there.0, there.1 ∙ h.schedule.opening.0)
 
--- equal words are of one place
-pub same_words : (script : Script) (p q : Place) → IsPlaceOf script p → IsPlaceOf script q → place_words p ≡ place_words q → AreOne p q
-same_words script p q some other e =
+-- equal words are of places that differ in the names of frames alone
+pub alike_words : (script : Script) (p q : Place) → IsPlaceOf script p → IsPlaceOf script q → place_words p ≡ place_words q → AreAlike p q
+alike_words script p q some other e =
     let denials = cons_same p.denials q.denials (p.kills ∷ (counted wide p.made ++ key_words p.core))
     (q.kills ∷ (counted wide q.made ++ key_words q.core)) e in
     let kills = cons_same p.kills q.kills (counted wide p.made ++ key_words p.core)
@@ -70,44 +70,3 @@ same_words script p q some other e =
 -- the call in flight wants memory
 abbrev pub StateWants : State → ℕ → Type 0
 StateWants s t = IsSomeAnd (s.calls t) (λ call. Wants s.pool t call)
-
--- one place looks alike
-one_looks : (p q : Place) → AreOne p q → LooksAlike p q
-unfolding phase_of life_of WaitsFor Row calls_of
-one_looks p q h = record {
-  calls = λ t. ap (λ (s : State). is_some (option_map word_of (s.calls t))) (sym h.state);
-  lives = λ t. ap (λ (s : State). s.life t) (sym h.state);
-  waits = λ t none grant holder new row.
-      none grant holder new
-      (subst (λ (s : State). events.Row s (Step t grant) (Blocked holder) (as_state new)) (sym h.state) row.0, row.1 ∙ sym h.sizes);
-  wants = λ t wants. subst (λ (s : State). StateWants s t) h.state wants;
-  made = sym h.made;
-  denials = sym h.denials;
-  kills = sym h.kills;
-}
-
--- a turn from the one is a turn from the other
-turn_from : (plan : Plan) (p q r : Place) (m : Moment) → AreOne p q → AnyTurn plan p m.event m.outcome r
-    → AnyTurn plan q m.event m.outcome r
-unfolding Row
-turn_from plan p q r m h turn =
-    turn_there plan p q (one_looks p q h) m.event m.outcome r r.core turn
-    (subst (λ (s : State). events.Row s m.event m.outcome (as_state r.core)) h.state turn.row.0, turn.row.1 ∙ h.sizes)
-
-one_itself : (p : Place) → AreOne p p
-one_itself p = record { state = refl; sizes = refl; made = refl; denials = refl; kills = refl }
-
--- what follows from the one follows from the other
-pub same_future : (plan : Plan) (p q : Place) (moments : List Moment) (last : Place) → AreOne p q → Leads plan p moments last
-    → (there : Place) × Leads plan q moments there × AreOne last there
-unfolding Leads
-same_future plan p q [] last h same = (q, refl, subst (λ (r : Place). AreOne r q) (sym same) h)
-same_future plan p q (m ∷ before) last h (r, leads, core, turn) =
-    let on = same_future plan p q before r h leads in
-    (last, (on.0, on.1, core, turn_from plan r on.0 last m on.2 turn), one_itself last)
-
-pub equal_future : (script : Script) (p q : Place) (moments : List Moment) (last : Place) → IsPlaceOf script p → IsPlaceOf script q
-    → place_words p ≡ place_words q → Leads (plan_for script) p moments last
-    → (there : Place) × Leads (plan_for script) q moments there × AreOne last there
-equal_future script p q moments last some other same leads =
-    same_future (plan_for script) p q moments last (same_words script p q some other same) leads

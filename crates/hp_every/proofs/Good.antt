@@ -7,24 +7,24 @@ use Rattle.hp_core.specs.State.{CoreState, as_state}
 use Rattle.hp_watch.specs.Moments.{Moment}
 use Rattle.hp_key.specs.Numbers.{counted}
 use Rattle.hp_key.proofs.Tells.{Own, Tells, cons_same, tells_at, tells_counted, tells_flag, tells_wide}
+use Rattle.hp_key.proofs.Unpacking.{unpacked}
 use Rattle.hp_layers.specs.Layers.{IsAsGood}
 use Rattle.hp_machine.specs.State.{State}
 use Rattle.hp_sequential.specs.Renaming.{Alike}
 use Rattle.hp_hunt.specs.Watching.{AllKnow, Known, of_watch}
 use Rattle.hp_hunt.specs.declared.watching.Watch.{Watch}
 use Rattle.hp_every.specs.declared.turn.Turn.{Turn}
-use Rattle.hp_every.specs.Places.{AreOne, IsPlaceOf, place_words}
+use Rattle.hp_every.specs.Places.{IsPlaceOf, place_words}
 use Rattle.hp_every.specs.Schedules.{AnyTurn, Place, plan_for}
-use Rattle.hp_every.specs.Search.{AreAsGood, Question, GoesOn, HasTurns, IsPath, IsRun, PathState, search_words}
+use Rattle.hp_every.specs.Search.{AreAsGood, Question, GoesOn, HasTurns, IsPath, IsRun, PathState, search_key, search_words}
 use Rattle.hp_every.specs.Search.{call_number, calls_words, watch_words}
 use Rattle.hp_watch.specs.declared.call_word.CallWord.{CallWord}
 use Rattle.hp_watch.specs.declared.call_word.CallWord.TheVariants as call
 use Rattle.hp_every.specs.Turns.{turn_of, turns_of}
-use Rattle.hp_every.proofs.Futures.{same_words}
 use Rattle.hp_every.proofs.Knowing.{SameMoment, all_know_more, all_know_on, all_know_too, all_same, as_many, meets_there, moment_twins}
 use Rattle.hp_every.proofs.Paths.{last_same, never_empty}
 use Rattle.hp_every.proofs.Sames.{Same, Split, by_events, by_turns, joined, place_is, same_events, same_then, split, turn_also}
-use Rattle.hp_every.proofs.Sames.{turned_round}
+use Rattle.hp_every.proofs.Sames.{same_words, turned_round}
 
 -- two flags that follow from each other are one
 pub one_flag : (b c : Bool) → (b ≡ true → c ≡ true) → (c ≡ true → b ≡ true) → b ≡ c
@@ -145,34 +145,12 @@ words_tell a v w p q c d e =
     let same : v.calls ≡ w.calls = sym (map-id v.calls) ∙ (calls.0 ∙ map-id w.calls) in
     (λ i. record { calls = same i; watches = watches i }, seen.1)
 
--- one place is the same place
-alike_one : (a : Question) (f : CoreState) (ms : List Moment) (p q : Place) → IsRun a f ms p → AreOne p q → Same p q
-alike_one a f ms p q run h =
-    let itself = by_events a f f ms ms p p run run refl in
-    let alike = itself.on.state in
-    record {
-      on = record {
-        state = subst (λ (n : State). Alike (as_state p.core) n) h.state alike;
-        sizes = h.sizes;
-        made = h.made;
-        denials = h.denials;
-        kills = h.kills;
-      };
-      back = record {
-        state = subst (λ (n : State). Alike n (as_state p.core)) h.state alike;
-        sizes = sym h.sizes;
-        made = sym h.made;
-        denials = sym h.denials;
-        kills = sym h.kills;
-      };
-    }
-
 pub by_key : (a : Question) (s t : PathState) → IsPath a s → IsPath a t → s.key ≡ t.key → AreAsGood a s t
 by_key a s t x y e =
-    let both = words_tell a x.known y.known x.last y.last x.know.of y.know.of (sym x.key ∙ (e ∙ y.key)) in
+    let words = unpacked (search_words x.known x.last) (search_words y.known y.last) (sym x.key ∙ (e ∙ y.key)) in
+    let both = words_tell a x.known y.known x.last y.last x.know.of y.know.of words in
     let one = same_words a.script x.last y.last (place_is a x.first x.moments x.last x.run) (place_is a y.first y.moments y.last y.run) both.1 in
-    as_good_of a s t x y x.known x.know (subst (λ (ws : Known). AllKnow a.conditions ws y.moments) (sym both.0) y.know)
-    (alike_one a x.first x.moments x.last y.last x.run one)
+    as_good_of a s t x y x.known x.know (subst (λ (ws : Known). AllKnow a.conditions ws y.moments) (sym both.0) y.know) one
 
 -- ---- the same futures
 
@@ -305,7 +283,7 @@ follows_by a s t after next x turns z = (u, refl, path, as_good_of a after u z p
         (subst (λ (ms : List Moment). AllKnow a.conditions z.known ms) g.last.is z.know)
 
     u : PathState
-    u = record { turns = t.turns ++ next ∷ []; key = search_words z.known g.place; met = after.met }
+    u = record { turns = t.turns ++ next ∷ []; key = search_key z.known g.place; met = after.met }
 
     path : IsPath a u
     path = record {

@@ -16,12 +16,12 @@ use Rattle.hp_watch.specs.Moments.{Moment, events_of, last_of}
 use Rattle.hp_explore.specs.Schedule.{Plan, in_call, next_call}
 use Rattle.hp_every.specs.declared.turn.Turn.{Turn}
 use Rattle.hp_every.specs.declared.turn.Turn.TheVariants as turn
-use Rattle.hp_every.specs.Places.{AreAlike, IsPlaceOf}
+use Rattle.hp_every.specs.Places.{AreAlike, HasFuture, IsPlaceOf, place_words}
 use Rattle.hp_every.specs.Schedules.{AnyTurn, Leads, MayTurn, Place, first_place, plan_for, world}
 use Rattle.hp_every.specs.Search.{Question, IsRun}
 use Rattle.hp_every.specs.Turns.{task_of, turn_of, turns_of}
 use Rattle.hp_every.proofs.Alike.{alike_turn, twins_look}
-use Rattle.hp_every.proofs.Futures.{place_reached}
+use Rattle.hp_every.proofs.Futures.{alike_words, place_reached}
 use Rattle.hp_every.proofs.Looks.{LooksAlike, can_there, same_done}
 use Rattle.hp_every.proofs.Paths.{last_same, never_empty, one_place}
 use Rattle.hp_every.proofs.Renamed.{alike_on, core_of}
@@ -150,6 +150,59 @@ turn_also script p q r event o here there h a =
       subst (λ (u : Outcome). AnyTurn (plan_for script) q event u (record r { core = core.0 })) on.1 on.0,
       record { on = on.2; back = back.2 },
     )
+
+-- ---- equal words
+
+pub same_words : (script : Script) (p q : Place) → IsPlaceOf script p → IsPlaceOf script q → place_words p ≡ place_words q → Same p q
+same_words script p q here there e =
+    record { on = alike_words script p q here there e; back = alike_words script q p there here (sym e) }
+
+-- turns behind turns
+leads_on : (plan : Plan) (f g h : Place) (ms ns : List Moment) → Leads plan f ms g → Leads plan g ns h → Leads plan f (ns ++ ms) h
+unfolding Leads
+leads_on plan f g h ms [] a b = subst (λ (p : Place). Leads plan f ms p) (sym b) a
+leads_on plan f g h ms (n ∷ ns) a (before, b, core, turn) = (before, leads_on plan f g before ms ns a b, core, turn)
+
+-- whatever follows from a place of the script is one
+place_on : (script : Script) (p q : Place) (ms : List Moment) → IsPlaceOf script p → Leads (plan_for script) p ms q → IsPlaceOf script q
+place_on script p q ms here leads = record {
+  denials = here.denials;
+  kills = here.kills;
+  first = here.first;
+  moments = ms ++ here.moments;
+  schedule = record {
+    opening = here.schedule.opening;
+    leads = leads_on (plan_for script) (first_place script here.denials here.kills here.first) p q here.moments ms here.schedule.leads leads;
+  };
+}
+
+-- what follows from the one follows from the other
+same_future : (script : Script) (p q : Place) (moments : List Moment) (last : Place) → IsPlaceOf script p → IsPlaceOf script q → Same p q
+    → Leads (plan_for script) p moments last → (z : HasFuture (plan_for script) q moments last) × Same last z.there
+unfolding Leads
+same_future script p q [] last here there h same =
+    let on = subst (λ (x : Place). Same x q) (sym same) h in
+    (record { others = []; there = q; leads = refl; events = refl; outcomes = refl; alike = on.on }, on)
+same_future script p q (m ∷ before) last here there h (r, leads, core, turn) =
+    let so_far = same_future script p q before r here there h leads in
+    let z = so_far.0 in
+    let also = turn_also script r z.there last m.event m.outcome (place_on script p r before here leads)
+    (place_on script q z.there z.others there z.leads) so_far.1 turn in (
+      record {
+        others = record { event = m.event; outcome = m.outcome; core = also.0.core } ∷ z.others;
+        there = also.0;
+        leads = (z.there, z.leads, refl, also.1);
+        events = λ i. z.events i ++ m.event ∷ [];
+        outcomes = λ i. m.outcome ∷ z.outcomes i;
+        alike = also.2.on;
+      },
+      also.2,
+    )
+
+pub equal_future : (script : Script) (p q : Place) (moments : List Moment) (last : Place) → IsPlaceOf script p → IsPlaceOf script q
+    → place_words p ≡ place_words q → Leads (plan_for script) p moments last → HasFuture (plan_for script) q moments last
+equal_future script p q moments last here there e leads =
+    (same_future script p q moments last here there (same_words script p q here there e) leads).0
 
 -- ---- the same turns
 

@@ -5,6 +5,7 @@ use Rattle.hp_core.specs.Readers.{free_of, resv_of, used_of}
 use Rattle.hp_core.specs.State.{CoreState}
 use Rattle.hp_explore.specs.Schedule.{Plan}
 use Rattle.hp_key.specs.Numbers.{answer_words, wide}
+use Rattle.hp_key.specs.Packed.{packed}
 use Rattle.hp_watch.specs.Calls.{ended_by}
 use Rattle.hp_watch.specs.Moments.{Moment}
 use Rattle.hp_watch.specs.declared.calls.EndedCall.{EndedCall}
@@ -50,6 +51,10 @@ answers_words es = wide (length es) ++ flat_map ended_call_words es
 abbrev pub ended_words : Ended → List ℕ
 ended_words e = e.free ∷ e.resv ∷ e.used ∷ answers_words e.answers
 
+-- they are kept as bytes
+abbrev pub ended_key : Ended → List ℕ
+ended_key e = packed (ended_words e)
+
 -- these moments are those of a schedule that comes to its end, where no turn may be made, and that ends so
 pub record EndsSo (a : Question) (moments : List Moment) (e : Ended) : Type 0 where
   pub first : CoreState
@@ -64,15 +69,15 @@ pub record EndState : Type 0 where
   pub key : List ℕ
   pub ending : Option (List ℕ)
 
--- the ending of a schedule that stands there, as words, if it is one
+-- the ending of a schedule that stands there, as a key, if it is one
 unfoldable pub IsEnding : Plan → List Moment → (last : Place) → Option (List ℕ) → Type 0
 IsEnding plan moments p None = Ends plan p → ⊥
-IsEnding plan moments p (Some words) = Ends plan p × (words ≡ ended_words (ended_at moments p.core))
+IsEnding plan moments p (Some key) = Ends plan p × (key ≡ ended_key (ended_at moments p.core))
 
 -- some schedule has these turns, and all that is kept of it is right
 pub record IsEndState (a : Question) (s : EndState) : Type 0 where
   pub path : IsPath a s.path
-  pub key : s.key ≡ answers_words (answers_in path.moments) ++ s.path.key
+  pub key : s.key ≡ packed (answers_words (answers_in path.moments)) ++ s.path.key
   pub ending : IsEnding (plan_for a.script) path.moments path.last s.ending
 
 -- the second schedule is the first with that turn more

@@ -6,6 +6,7 @@ use Rattle.hp_core.specs.State.{CoreState}
 use Rattle.hp_text.specs.declared.script.Script.{Script}
 use Rattle.hp_watch.specs.Moments.{Moment}
 use Rattle.hp_key.specs.Numbers.{wide}
+use Rattle.hp_key.specs.Packed.{packed}
 use Rattle.hp_watch.specs.declared.call_word.CallWord.{CallWord}
 use Rattle.hp_watch.specs.declared.call_word.CallWord.TheVariants as call
 use Rattle.hp_watch.specs.declared.calls.TaskCalls.{TaskCalls}
@@ -81,6 +82,10 @@ abbrev pub search_words : Known → Place → List ℕ
 search_words known p =
     wide (length known.calls) ++ (flat_map calls_words known.calls ++ (flat_map watch_words known.watches ++ place_words p))
 
+-- they are kept as bytes
+abbrev pub search_key : Known → Place → List ℕ
+search_key known p = packed (search_words known p)
+
 -- some schedule has these turns, and all that is kept of it is right
 pub record IsPath (a : Question) (s : PathState) : Type 0 where
   pub first : CoreState
@@ -90,7 +95,7 @@ pub record IsPath (a : Question) (s : PathState) : Type 0 where
   pub run : IsRun a first moments last
   pub made : turns_of moments ≡ s.turns
   pub know : AllKnow a.conditions known moments
-  pub key : s.key ≡ search_words known last
+  pub key : s.key ≡ search_key known last
   pub met : s.met ≡ true ↔ MeetsHere (plan_for a.script) a.conditions first moments last
 
 -- the second schedule is the first with one turn more

@@ -11,7 +11,7 @@ ghost use Rattle.hp_explore.specs.declared.line.Finish.TheVariants.{Finished};
 ghost use Rattle.hp_explore.specs.declared.line.RunLine.{RunLine};
 ghost use Rattle.hp_hunt.specs.Conditions.{SomeRunMeets, SomeRunMisses};
 ghost use Rattle.hp_hunt.specs.declared.condition.Condition.{Condition};
-ghost use Rattle.hp_every.specs.Places.{AreAlike, AreOne, IsPlaceOf, outcomes_of, place_words};
+ghost use Rattle.hp_every.specs.Places.{AreAlike, HasFuture, IsPlaceOf, outcomes_of, place_words};
 ghost use Rattle.hp_every.specs.Scheduled.{IsScheduled, how_many, is_denied, is_kill};
 ghost use Rattle.hp_every.specs.Schedules.{AnyTurn, IsSchedule, IsShortest, Leads, NoScheduleMeets, Place, plan_for};
 
@@ -55,13 +55,14 @@ pub fn a_shortest_schedule_is_a_run()
         → length others < length events → SomeRunMisses script.config others conditions }
 {}
 
-/// Two places with equal words are one place, by whatever schedules they are reached: what follows from the one follows from the other, by
-/// the same moments, and leads to one place again. So a search that has seen the words of a place has seen its whole future.
+/// Two places with equal words differ in the names of frames alone, by whatever schedules they are reached: what follows from the one
+/// follows from the other, by the same events with the same outcomes, and leads to places that differ so again. So a search that has seen the
+/// words of a place has seen its whole future.
 pub fn equal_places_have_equal_futures()
-    ensures one { (script : Script) (p q : Place) → IsPlaceOf script p → IsPlaceOf script q → place_words p ≡ place_words q → AreOne p q }
+    ensures alike { (script : Script) (p q : Place) → IsPlaceOf script p → IsPlaceOf script q → place_words p ≡ place_words q → AreAlike p q }
     ensures futures { (script : Script) (p q : Place) (moments : List Moment) (last : Place)
         → IsPlaceOf script p → IsPlaceOf script q → place_words p ≡ place_words q → Leads (plan_for script) p moments last
-        → (there : Place) × Leads (plan_for script) q moments there × AreOne last there }
+        → HasFuture (plan_for script) q moments last }
 {}
 
 /// Which free frame is taken doesn't show in a schedule: two of the same events have the same outcomes, and lead to places that differ in

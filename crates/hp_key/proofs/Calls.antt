@@ -1,11 +1,14 @@
--- The words of a call tell the call: what it carries is read back from the words, and the phase from what it carries.
+-- The words of a call tell the call but for the name of a frame in its hand: what it carries is read back from the words, and the phase from
+-- what it carries.
 use Rattle.std.proofs.Common.{◌≡◌, ◌∙◌, ℕ, ◌++◌, ◌∷◌, [], List, refl, sym, ap, arith}
-use Rattle.std.specs.Prelude.{◌==◌, Bool, Option, Some, None, if◌then◌else◌}
+use Rattle.std.specs.Prelude.{◌==◌, Bool, Option, Some, None, if◌then◌else◌, is_some}
 use Rattle.std.specs.Option.{option_map, unwrap_or}
 use Rattle.std.proofs.lemmas.List.{map-id}
+use Rattle.hp_base.specs.Numbers.{bit}
 use Rattle.hp_base.specs.declared.answer.Answer.{Answer}
 use Rattle.hp_base.specs.declared.answer.Answer.TheVariants as answer
 use Rattle.hp_region.specs.Change as region
+use Rattle.hp_machine.specs.Views.{hand}
 use Rattle.hp_machine.specs.declared.touch.Access.{Access}
 use Rattle.hp_machine.specs.declared.touch.Access.TheVariants.{Load, Store}
 use Rattle.hp_machine.specs.declared.touch.Touch.{Touch}
@@ -31,10 +34,11 @@ use Rattle.hp_machine.specs.declared.call.Call.{Call}
 use Rattle.hp_machine.specs.declared.call.Call.TheVariants as call
 use Rattle.hp_machine.specs.declared.outcome.Life.{Life}
 use Rattle.hp_machine.specs.declared.outcome.Life.TheVariants.{Alive, Killed, Dead}
+use Rattle.hp_sequential.specs.Renaming.{alloc_renamed, call_renamed, punch_renamed, touch_renamed, truncate_renamed}
 use Rattle.hp_key.specs.declared.carried.Carried.{Carried}
 use Rattle.hp_key.specs.declared.carried.Change.{Change}
 use Rattle.hp_key.specs.Numbers.{access_words, answer_number, answer_value, answer_words, change_words, counted, life_number, maybe}
-use Rattle.hp_key.specs.Numbers.{number_words, wide}
+use Rattle.hp_key.specs.Numbers.{wide}
 use Rattle.hp_key.specs.Carried.{call_words, carried, carried_words}
 use Rattle.hp_key.proofs.Tells.{Own, Tells, cons_same, tells_at, tells_both, tells_counted, tells_flag, tells_maybe, tells_number}
 use Rattle.hp_key.proofs.Tells.{tells_then, tells_wide}
@@ -129,32 +133,33 @@ own_answer =
 
 -- what stands behind the numbers
 abbrev Rest : Type 0
-Rest = Access × (Option Change × (Option ℕ × Option Answer))
+Rest = Access × (Option Change × (Bool × Option Answer))
 
 rest_words : Carried → List ℕ
-rest_words c = access_words c.access ++ (maybe change_words c.change ++ (maybe number_words c.frame ++ maybe answer_words c.answer))
+rest_words c = access_words c.access ++ (maybe change_words c.change ++ (bit (is_some c.frame) ∷ maybe answer_words c.answer))
 
 abbrev rest_of : Carried → Rest
-rest_of c = (c.access, (c.change, (c.frame, c.answer)))
+rest_of c = (c.access, (c.change, (is_some c.frame, c.answer)))
 
 tells_rest : Tells rest_words rest_words rest_of rest_of
 unfolding rest_words
 tells_rest =
     tells_both (tells_at (λ (c : Carried). c.access) own_access)
     (tells_both (tells_at (λ (c : Carried). c.change) (own_maybe own_change))
-    (tells_both (tells_at (λ (c : Carried). c.frame) (own_maybe tells_number))
+    (tells_both (tells_at (λ (c : Carried). is_some c.frame) tells_flag)
     (tells_at (λ (c : Carried). c.answer) (own_maybe own_answer))))
 
--- all of it, one behind the other
-abbrev Fields : Type 0
+-- all of it but the name of the frame, one behind the other
+abbrev pub Fields : Type 0
 Fields = ℕ × (ℕ × (ℕ × (ℕ × (ℕ × (ℕ × (ℕ × (ℕ × (ℕ × (ℕ × (Bool × Rest))))))))))
 
 abbrev fields_of : Carried → Fields
 fields_of c =
     (c.operation, (c.phase, (c.page, (c.file, (c.from, (c.len, (c.index, (c.task, (c.evicted, (c.excess, (c.flag, rest_of c)))))))))))
 
-abbrev carried_of : Fields → Carried
-carried_of p =
+-- with the frame it is all
+abbrev carried_of : Fields → (frame : Option ℕ) → Carried
+carried_of p frame =
     record {
       operation = p.0;
       phase = p.1.0;
@@ -169,7 +174,7 @@ carried_of p =
       flag = p.1.1.1.1.1.1.1.1.1.1.0;
       access = p.1.1.1.1.1.1.1.1.1.1.1.0;
       change = p.1.1.1.1.1.1.1.1.1.1.1.1.0;
-      frame = p.1.1.1.1.1.1.1.1.1.1.1.1.1.0;
+      frame = frame;
       answer = p.1.1.1.1.1.1.1.1.1.1.1.1.1.1;
     }
 
@@ -180,9 +185,6 @@ tells_fields =
     (tells_then (λ (c : Carried). c.file) (tells_then (λ (c : Carried). c.from) (tells_then (λ (c : Carried). c.len)
     (tells_then (λ (c : Carried). c.index) (tells_then (λ (c : Carried). c.task) (tells_then (λ (c : Carried). c.evicted)
     (tells_then (λ (c : Carried). c.excess) (tells_both (tells_at (λ (c : Carried). c.flag) tells_flag) tells_rest))))))))))
-
-own_carried : Own carried_words
-own_carried = own_back {words = carried_words} fields_of carried_of (λ c. refl) tells_fields
 
 -- ---- the phase that carries it
 
@@ -376,9 +378,122 @@ back (call.Exit (exit.Clear p)) = refl
 back (call.Exit (exit.Drop p)) = refl
 back (call.Exit exit.Leave) = refl
 
--- so the words of a call tell it
-pub own_call : Own call_words
-own_call = own_back {words = call_words} carried call_back back (tells_at carried own_carried)
+-- ---- frames under other names
+
+-- what a call carries under other names
+touch_carries : (to : ℕ → ℕ) (p : TouchPhase)
+    → carried (call.Touch (touch_renamed to p))
+    ≡ record (carried (call.Touch p)) { frame = option_map to (carried (call.Touch p)).frame }
+touch_carries to (touch.Taken p) = refl
+touch_carries to (touch.Settle p) = refl
+touch_carries to (touch.Committed p) = refl
+touch_carries to (touch.Restore p) = refl
+touch_carries to p = refl
+
+map_carries : (to : ℕ → ℕ) (p : MapPhase)
+    → carried (call.Map p) ≡ record (carried (call.Map p)) { frame = option_map to (carried (call.Map p)).frame }
+map_carries to (map.Start p) = refl
+map_carries to p = refl
+
+alloc_carries : (to : ℕ → ℕ) (p : AllocPhase)
+    → carried (call.Alloc (alloc_renamed to p))
+    ≡ record (carried (call.Alloc p)) { frame = option_map to (carried (call.Alloc p)).frame }
+alloc_carries to (alloc.Taken p) = refl
+alloc_carries to (alloc.Settle p) = refl
+alloc_carries to (alloc.Committed p) = refl
+alloc_carries to (alloc.Restore p) = refl
+alloc_carries to p = refl
+
+punch_carries : (to : ℕ → ℕ) (p : PunchPhase)
+    → carried (call.Punch (punch_renamed to p))
+    ≡ record (carried (call.Punch p)) { frame = option_map to (carried (call.Punch p)).frame }
+punch_carries to (punch.Delete p) = refl
+punch_carries to (punch.Free p) = refl
+punch_carries to p = refl
+
+truncate_carries : (to : ℕ → ℕ) (p : TruncatePhase)
+    → carried (call.Truncate (truncate_renamed to p))
+    ≡ record (carried (call.Truncate p)) { frame = option_map to (carried (call.Truncate p)).frame }
+truncate_carries to (truncate.Free p) = refl
+truncate_carries to p = refl
+
+unmap_carries : (to : ℕ → ℕ) (p : UnmapPhase)
+    → carried (call.Unmap p) ≡ record (carried (call.Unmap p)) { frame = option_map to (carried (call.Unmap p)).frame }
+unmap_carries to (unmap.Start p) = refl
+unmap_carries to p = refl
+
+exit_carries : (to : ℕ → ℕ) (p : ExitPhase)
+    → carried (call.Exit p) ≡ record (carried (call.Exit p)) { frame = option_map to (carried (call.Exit p)).frame }
+exit_carries to exit.Start = refl
+exit_carries to p = refl
+
+carries : (to : ℕ → ℕ) (c : Call) → carried (call_renamed to c) ≡ record (carried c) { frame = option_map to (carried c).frame }
+carries to (call.Touch p) = touch_carries to p
+carries to (call.Map p) = map_carries to p
+carries to (call.Alloc p) = alloc_carries to p
+carries to (call.Punch p) = punch_carries to p
+carries to (call.Truncate p) = truncate_carries to p
+carries to (call.Unmap p) = unmap_carries to p
+carries to (call.Exit p) = exit_carries to p
+
+-- the frame that it carries is the one in its hand
+touch_hand : (p : TouchPhase) → hand (Some (call.Touch p)) ≡ (carried (call.Touch p)).frame
+touch_hand (touch.Taken p) = refl
+touch_hand p = refl
+
+map_hand : (p : MapPhase) → hand (Some (call.Map p)) ≡ (carried (call.Map p)).frame
+map_hand (map.Start p) = refl
+map_hand p = refl
+
+alloc_hand : (p : AllocPhase) → hand (Some (call.Alloc p)) ≡ (carried (call.Alloc p)).frame
+alloc_hand (alloc.Taken p) = refl
+alloc_hand p = refl
+
+punch_hand : (p : PunchPhase) → hand (Some (call.Punch p)) ≡ (carried (call.Punch p)).frame
+punch_hand (punch.Delete p) = refl
+punch_hand p = refl
+
+truncate_hand : (p : TruncatePhase) → hand (Some (call.Truncate p)) ≡ (carried (call.Truncate p)).frame
+truncate_hand (truncate.Free p) = refl
+truncate_hand p = refl
+
+unmap_hand : (p : UnmapPhase) → hand (Some (call.Unmap p)) ≡ (carried (call.Unmap p)).frame
+unmap_hand (unmap.Start p) = refl
+unmap_hand p = refl
+
+exit_hand : (p : ExitPhase) → hand (Some (call.Exit p)) ≡ (carried (call.Exit p)).frame
+exit_hand exit.Start = refl
+exit_hand p = refl
+
+hand_carried : (c : Call) → hand (Some c) ≡ (carried c).frame
+hand_carried (call.Touch p) = touch_hand p
+hand_carried (call.Map p) = map_hand p
+hand_carried (call.Alloc p) = alloc_hand p
+hand_carried (call.Punch p) = punch_hand p
+hand_carried (call.Truncate p) = truncate_hand p
+hand_carried (call.Unmap p) = unmap_hand p
+hand_carried (call.Exit p) = exit_hand p
+
+-- ---- so the words of a call tell it, but for the name of the frame in its hand
+
+abbrev pub told_of : Call → Fields
+told_of c = fields_of (carried c)
+
+pub tells_call : Tells call_words call_words told_of told_of
+tells_call = tells_at carried tells_fields
+
+-- one has a frame in hand where the other has
+pub same_busy_hand : (c d : Call) → told_of c ≡ told_of d → is_some (hand (Some c)) ≡ is_some (hand (Some d))
+same_busy_hand c d e =
+    ap is_some (hand_carried c) ∙ (ap (λ (f : Fields). f.1.1.1.1.1.1.1.1.1.1.1.1.1.0) e ∙ sym (ap is_some (hand_carried d)))
+
+-- and with the frame renamed, the one is the other
+pub renamed_call : (c d : Call) (to : ℕ → ℕ) → told_of c ≡ told_of d → hand (Some d) ≡ option_map to (hand (Some c)) → d ≡ call_renamed to c
+renamed_call c d to e named =
+    let frame : (carried d).frame ≡ option_map to (carried c).frame =
+    sym (hand_carried d) ∙ (named ∙ ap (option_map to) (hand_carried c)) in
+    let same : carried d ≡ record (carried c) { frame = option_map to (carried c).frame } = λ i. carried_of (sym e i) (frame i) in
+    sym (back d) ∙ (ap call_back (same ∙ sym (carries to c)) ∙ back (call_renamed to c))
 
 -- ---- lives
 

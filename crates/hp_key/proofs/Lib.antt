@@ -1,6 +1,10 @@
 pub mod Calls
 pub mod Made
 pub mod Mapped
+pub mod Matching
+pub mod Picking
 pub mod Same
 pub mod Tells
+pub mod Told
+pub mod Unpacking
 pub mod Writing

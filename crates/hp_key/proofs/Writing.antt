@@ -1,6 +1,6 @@
 -- Loops that write the words of a list, thing by thing.
-use Rattle.std.proofs.Common.{◌≡◌, ◌∙◌, ℕ, zero, suc, ◌+◌, ◌<◌, ◌≤◌, ◌++◌, ◌∷◌, [], List, length, get_or, take, refl, sym, ap, arith}
-use Rattle.std.specs.Prelude.{Bool, true, false, Option, Some, None, ◌↔◌, IsTrue, slice_get, is_some, IsSome}
+use Rattle.std.proofs.Common.{◌≡◌, ◌∙◌, ℕ, suc, ◌+◌, ◌<◌, ◌≤◌, ◌++◌, ◌∷◌, [], List, length, get_or, take, refl, sym, ap, arith}
+use Rattle.std.specs.Prelude.{Bool, Option, Some, None, slice_get, is_some, IsSome}
 use Rattle.std.specs.Option.{option_map, unwrap_or}
 use Rattle.std.specs.List.{flat_map}
 use Rattle.std.specs.FinMap as map
@@ -10,17 +10,15 @@ use Rattle.std.proofs.lemmas.List.Concat.{flat_map-append}
 use Rattle.std.proofs.lemmas.Option.{get_or_from_slice_get, slice_get-get_or}
 use Rattle.hp_base.specs.Indices.{count_below, region_count}
 use Rattle.hp_base.proofs.Counting.{count_below_le}
-use Rattle.hp_frames.proofs.Frames.{free_is, retired_is}
-use Rattle.hp_frames.specs.Bank.{frame_at, is_free, is_retired}
+use Rattle.hp_frames.specs.Bank.{frame_at}
 use Rattle.hp_frames.specs.declared.frame.FrameState.{FrameState}
-use Rattle.hp_frames.specs.declared.frame.FrameState.TheVariants.{Free, Hand, Placed, Retired}
+use Rattle.hp_frames.specs.declared.frame.FrameState.TheVariants.{Hand, Placed}
 use Rattle.hp_region.specs.declared.region.Region.{Region}
-use Rattle.hp_core.proofs.Copying.{state_test}
 use Rattle.hp_chunks.specs.Framed.{entry_at, listed}
 use Rattle.hp_chunks.proofs.Listing.{entries-map_below, listed_count, listed_more}
 use Rattle.hp_chunks.proofs.Tables.{same_as}
 use Rattle.hp_base.specs.Pages.{IsPagesEnd}
-use Rattle.hp_key.specs.Key.{frame_number, page_words, region_words, word_in}
+use Rattle.hp_key.specs.Key.{page_words, region_words, word_in}
 use Rattle.hp_key.specs.Numbers.{counted, wide}
 
 -- one thing more
@@ -76,19 +74,6 @@ pub frame_read : (frames : List FrameState) (x : ℕ) → frame_at frames x ≡ 
 unfolding frame_at
 frame_read frames x = refl
 
--- neither free nor retired is in use
-used_number : (f : FrameState) → is_free f ≡ false → is_retired f ≡ false → 1 ≡ frame_number f
-used_number Free free retired = (let z : true ≡ false = free in absurd (cc))
-used_number Hand free retired = refl
-used_number (Placed word) free retired = refl
-used_number Retired free retired = (let z : true ≡ false = retired in absurd (cc))
-
-pub used_told : (frames : List FrameState) (x : ℕ) (free retired : Bool) → (IsTrue free ↔ (slice_get frames x ≡ Some Free))
-    → (IsTrue retired ↔ (slice_get frames x ≡ Some Retired)) → free ≡ false → retired ≡ false → 1 ≡ frame_number (frame_at frames x)
-used_told frames x free retired is_one is_other no_one no_other =
-    used_number (frame_at frames x) (state_test is_free Free free_is refl refl frames x free is_one ∙ no_one)
-    (state_test is_retired Retired retired_is refl refl frames x retired is_other ∙ no_other)
-
 -- ---- regions
 
 pub few_regions : (n : ℕ) (set : ℕ → Bool) → region_count n set ≤ n
@@ -121,16 +106,15 @@ region_read regions k o r d read some = by (slice_get regions k) refl
 
 -- ---- pages
 
-pub page_word : (frames : List FrameState) (words before one after : List ℕ) (index frame word : ℕ) (o : Option ℕ) → o ≡ Some frame
-    → slice_get frames frame ≡ Some (Placed word) → before ≡ words ++ index ∷ [] → one ≡ before ++ frame ∷ [] → after ≡ one ++ wide word
+pub page_word : (frames : List FrameState) (words before after : List ℕ) (index frame word : ℕ) (o : Option ℕ) → o ≡ Some frame
+    → slice_get frames frame ≡ Some (Placed word) → before ≡ words ++ index ∷ [] → after ≡ before ++ wide word
     → after ≡ words ++ flat_map (page_words frames) (entry_at index o)
-page_word frames words before one after index frame word o some placed first second last =
+page_word frames words before after index frame word o some placed first last =
     let is : word_in (frame_at frames frame) ≡ word =
     ap word_in (frame_read frames frame ∙ get_or_from_slice_get frames frame (Placed word) Hand placed) in
-    let all : after ≡ words ++ (index ∷ frame ∷ wide word) =
-    last ∙ (ap (λ (ws : List ℕ). ws ++ wide word) (second ∙ ap (λ (ws : List ℕ). ws ++ frame ∷ []) first)
-    ∙ (append_assoc (words ++ index ∷ []) (frame ∷ []) (wide word) ∙ append_assoc words (index ∷ []) (frame ∷ wide word))) in
-    all ∙ (ap (λ (n : ℕ). words ++ (index ∷ frame ∷ wide n)) (sym is)
+    let all : after ≡ words ++ (index ∷ wide word) =
+    last ∙ (ap (λ (ws : List ℕ). ws ++ wide word) first ∙ append_assoc words (index ∷ []) (wide word)) in
+    all ∙ (ap (λ (n : ℕ). words ++ (index ∷ wide n)) (sym is)
     ∙ (sym (ap (λ (ws : List ℕ). words ++ ws) (append-nil (page_words frames (index, frame))))
     ∙ ap (λ (p : Option ℕ). words ++ flat_map (page_words frames) (entry_at index p)) (sym some)))
 

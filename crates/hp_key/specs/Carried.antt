@@ -1,5 +1,5 @@
 -- What a call in flight carries, by the phase in which it stands: one table, a line a phase.
-use Rattle.std.specs.Prelude.{ℕ, ◌++◌, ◌∷◌, [], false, List, Some, None}
+use Rattle.std.specs.Prelude.{ℕ, ◌++◌, ◌∷◌, [], false, List, Some, None, is_some}
 use Rattle.hp_base.specs.Numbers.{bit}
 use Rattle.hp_region.specs.Change as region
 use Rattle.hp_machine.specs.declared.touch.Access.TheVariants.{Load}
@@ -19,7 +19,7 @@ use Rattle.hp_machine.specs.declared.call.Call.{Call}
 use Rattle.hp_machine.specs.declared.call.Call.TheVariants as call
 use Rattle.hp_key.specs.declared.carried.Carried.{Carried}
 use Rattle.hp_key.specs.declared.carried.Change.{Change}
-use Rattle.hp_key.specs.Numbers.{access_words, answer_words, change_words, maybe, number_words}
+use Rattle.hp_key.specs.Numbers.{access_words, answer_words, change_words, maybe}
 
 -- a call that carries nothing; the lines below name what it has
 abbrev pub at_phase : (operation phase : ℕ) → Carried
@@ -148,11 +148,11 @@ abbrev pub carried_numbers : Carried → List ℕ
 carried_numbers c =
     c.operation ∷ c.phase ∷ c.page ∷ c.file ∷ c.from ∷ c.len ∷ c.index ∷ c.task ∷ c.evicted ∷ c.excess ∷ bit c.flag ∷ []
 
--- the words of what it carries
+-- the words of what it carries: of a frame in its hand, that there is one
 abbrev pub carried_words : Carried → List ℕ
 carried_words c =
     carried_numbers c
-    ++ (access_words c.access ++ (maybe change_words c.change ++ (maybe number_words c.frame ++ maybe answer_words c.answer)))
+    ++ (access_words c.access ++ (maybe change_words c.change ++ (bit (is_some c.frame) ∷ maybe answer_words c.answer)))
 
 -- the words of a call in flight
 abbrev pub call_words : Call → List ℕ

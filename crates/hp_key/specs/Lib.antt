@@ -1,3 +1,4 @@
 pub mod Carried
 pub mod Key
 pub mod Numbers
+pub mod Packed

@@ -5,15 +5,15 @@ ghost use Rattle.std.specs.List.{flat_map};
 ghost use Rattle.hp_base.specs.declared.limits.TheConstants.{VPNS};
 ghost use Rattle.hp_base.specs.Mappings.{base_of};
 ghost use Rattle.hp_chunks.specs.Framed.{entry_at};
-ghost use Rattle.hp_frames.specs.Bank.{frame_at, IsPlaced};
+ghost use Rattle.hp_frames.specs.Bank.{IsPlaced};
 ghost use Rattle.hp_key.specs.Carried.{call_words, carried_numbers, carried_words};
-ghost use Rattle.hp_key.specs.Key.{entry_words, file_words, frame_number, frame_words, mapping_words, page_words, region_words};
+ghost use Rattle.hp_key.specs.Key.{entry_words, file_words, frames_words, mapping_words, page_words, region_words};
 ghost use Rattle.hp_key.specs.Key.{space_words, task_words};
 ghost use Rattle.hp_key.specs.Numbers.{counted, life_number, maybe, number_words};
 
 use crate::carried::{Carried, carried_by};
 use crate::numbers::{push_access, push_change, push_maybe, push_pending_answer, push_wide};
-use hp_base::{Frame, Index, Mapping, VPNS, Vpn};
+use hp_base::{Index, Mapping, VPNS, Vpn};
 use hp_chunks::PageCache;
 use hp_core::TaskState;
 use hp_frames::Bank;
@@ -24,27 +24,13 @@ use hp_slots::SlotTable;
 use hp_table::Space;
 use std::alloc::AllocError;
 
-// Where the frame is, as a number.
-fn frame_number(bank: &Bank, frame: Frame) -> u32
-    ensures { result ≡ frame_number (frame_at bank.now.frames frame) }
-{
-    if bank.is_free(frame) {
-        return 0;
-    }
-    if bank.is_retired(frame) {
-        return 2;
-    }
-    1
-}
-
-/// Where each frame is.
+/// How many frames there are, how many of them are in the pool, and how many are free.
 pub(crate) fn push_frames(words: &mut Vec<u32>, bank: &Bank) -> Result<(), AllocError>
-    ensures { OnOk result (words.new.items ≡ words.old.items ++ counted frame_words bank.now.frames) }
+    ensures { OnOk result (words.new.items ≡ words.old.items ++ frames_words bank.now.frames) }
 {
     words.push(bank.numbers())?;
-    for number in 0..bank.numbers() {
-        words.push(frame_number(bank, Frame::new(number)))?;
-    }
+    words.push(bank.frames())?;
+    words.push(bank.free())?;
     Ok(())
 }
 
@@ -91,13 +77,12 @@ fn push_page(
 {
     if let Some(frame) = cache.get(index) {
         words.push(index.number())?;
-        words.push(frame.number())?;
         push_wide(words, bank.load(frame))?;
     }
     Ok(())
 }
 
-// The pages of a file, each with its frame and its word.
+// The pages of a file, each with its word.
 fn push_pages(words: &mut Vec<u32>, cache: &PageCache, bank: &Bank) -> Result<(), AllocError>
     requires { (i x : ℕ) → get cache.now.pages i ≡ Some x → IsPlaced bank.now x }
     ensures { OnOk result (words.new.items ≡ words.old.items ++ counted (page_words bank.now.frames) (entries cache.now.pages)) }
@@ -218,9 +203,8 @@ fn push_translations(words: &mut Vec<u32>, space: &Space) -> Result<(), AllocErr
     ensures { OnOk result (words.new.items ≡ words.old.items ++ counted entry_words (entries space.now.entries)) }
 {
     words.push(space.entries() as u32)?;
-    for (vpn, frame) in space.translations() {
+    for (vpn, _) in space.translations() {
         words.push(vpn.number())?;
-        words.push(frame.number())?;
     }
     Ok(())
 }
@@ -274,7 +258,7 @@ fn push_carried(words: &mut Vec<u32>, carried: &Carried) -> Result<(), AllocErro
     push_numbers(words, carried)?;
     push_access(words, carried.access)?;
     push_change(words, carried.change)?;
-    push_maybe(words, carried.frame.map(|frame| frame.number()))?;
+    words.push(u32::from(carried.frame.is_some()))?;
     push_pending_answer(words, carried.answer)?;
     Ok(())
 }

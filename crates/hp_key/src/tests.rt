@@ -1,5 +1,5 @@
 //! Keys of a small pool, event by event.
-use crate::key;
+use crate::push_key;
 use hp_base::{Answer, Config, Event, File, Index, Op, Task, Vpn};
 use hp_core::Core;
 use std::alloc::{AllocError, Global};
@@ -30,6 +30,13 @@ fn events(alloc: Global) -> Result<Vec<Event>, AllocError> {
     events.push(Event::Kill(two))?;
     events.push(Event::Resize(6))?;
     Ok(events)
+}
+
+// The key of a core.
+fn key(alloc: Global, core: &Core) -> Result<Vec<u32>, AllocError> {
+    let mut words = Vec::new(alloc);
+    push_key(&mut words, core)?;
+    Ok(words)
 }
 
 // The keys of a pool, in the beginning and behind each of the events.

@@ -10,8 +10,9 @@ use Rattle.hp_watch.specs.Moments.{Moment}
 use Rattle.hp_layers.specs.Layers.{AreAllAfter}
 use Rattle.hp_layers.specs.Named.{AreApart, AreEach}
 use Rattle.hp_layers.proofs.Spreading.{all_after, zip_push}
+use Rattle.hp_key.specs.Packed.{packed}
 use Rattle.hp_every.specs.declared.turn.Turn.{Turn}
-use Rattle.hp_every.specs.Endings.{AreEndsAlike, EndState, GoesBy, GoesOnBy, IsEndState, IsEnding, answers_in, answers_words, ended_words}
+use Rattle.hp_every.specs.Endings.{AreEndsAlike, EndState, GoesBy, GoesOnBy, IsEndState, IsEnding, answers_in, answers_words, ended_key}
 use Rattle.hp_every.specs.Schedules.{Ends, Place, plan_for}
 use Rattle.hp_every.specs.Search.{HasTurns, IsPath, PathState, Question}
 use Rattle.hp_every.specs.Turns.{AreAllTurns}
@@ -34,12 +35,12 @@ pub none_ends : (plan : Plan) (moments : List Moment) (p : Place) → (Ends plan
 unfolding IsEnding
 none_ends plan moments p h = h
 
-pub ends_with : (plan : Plan) (moments : List Moment) (p : Position) (key : List ℕ) → Ends plan (place_of p) → key ≡ ended_words (ended_here p)
+pub ends_with : (plan : Plan) (moments : List Moment) (p : Position) (key : List ℕ) → Ends plan (place_of p) → key ≡ ended_key (ended_here p)
     → p.answers.ended.items ≡ answers_in moments → IsEnding plan moments (place_of p) (Some key)
 unfolding IsEnding
 ends_with plan moments p key over is answers = (
   over,
-  is ∙ (λ i. ended_words (record {
+  is ∙ (λ i. ended_key (record {
     answers = answers i;
     free = (ended_here p).free;
     resv = (ended_here p).resv;
@@ -50,7 +51,7 @@ ends_with plan moments p key over is answers = (
 -- what is kept is right, by whatever moments the turns were made
 pub state_is : (a : Question) (turns : List Turn) (events : List Event) (p : Position) (path : PathState) (key : List ℕ)
     (ending : Option (List ℕ)) → IsAt a turns events p → IsPath a path → path.turns ≡ turns
-    → key ≡ answers_words p.answers.ended.items ++ path.key
+    → key ≡ packed (answers_words p.answers.ended.items) ++ path.key
     → ((moments : List Moment) → p.answers.ended.items ≡ answers_in moments → IsEnding (plan_for a.script) moments (place_of p) ending)
     → IsEndState a (record { path = path; key = key; ending = ending })
 state_is a turns events p path key ending at is same told ends =
@@ -60,7 +61,7 @@ state_is a turns events p path key ending at is same told ends =
     let answers = answers_by_turns a path.turns here own in
     record {
       path = is;
-      key = told ∙ (λ i. answers_words ((at.answers ∙ answers) i) ++ path.key);
+      key = told ∙ (λ i. packed (answers_words ((at.answers ∙ answers) i)) ++ path.key);
       ending = ending_by_turns a path.turns here own ending (ends at.moments at.answers);
     }
 

@@ -21,7 +21,7 @@ use Rattle.hp_hunt.specs.declared.condition.Condition.{Condition}
 use Rattle.hp_hunt.specs.declared.condition.Sought.TheVariants.{Blocked}
 use Rattle.hp_every.specs.declared.turn.Turn.{Turn}
 use Rattle.hp_every.specs.Schedules.{Ends, IsFinal, MayTurn, Place, plan_for}
-use Rattle.hp_every.specs.Search.{AreBehind, GoesOn, HasTurns, IsPath, MayGoOn, MeetsHere, PathState, Question, search_words}
+use Rattle.hp_every.specs.Search.{AreBehind, GoesOn, HasTurns, IsPath, MayGoOn, MeetsHere, PathState, Question, search_key}
 use Rattle.hp_every.specs.Turns.{AreAllTurns}
 use Rattle.hp_every.proofs.Answers.{may_at, reached_path, turn_count}
 use Rattle.hp_every.proofs.Runs.{event_count}
@@ -54,7 +54,7 @@ ends_met plan conditions first moments p turns empty meets k within final all is
 -- ---- paths
 
 pub path_is : (a : Question) (turns : List Turn) (events : List Event) (p : Position) (key : List ℕ) (met : Bool) → IsAt a turns events p
-    → key ≡ search_words (known_of p.watches) (place_of p)
+    → key ≡ search_key (known_of p.watches) (place_of p)
     → ((first : CoreState) (moments : List Moment) → p.walk.core ≡ last_of first moments → AllKnow a.conditions (known_of p.watches) moments
     → (met ≡ true ↔ MeetsHere (plan_for a.script) a.conditions first moments (place_of p)))
     → IsPath a (record { turns = turns; key = key; met = met })

@@ -16,7 +16,7 @@ use Rattle.hp_layers.specs.declared.ending.EndingTable.{EndingTable}
 use Rattle.hp_layers.specs.declared.ending.EndingTable.TheVariants.{Whole}
 use Rattle.hp_layers.proofs.Naming.{first_or, here, is_at, names_of, there, to_map}
 use Rattle.hp_every.specs.declared.turn.Turn.{Turn}
-use Rattle.hp_every.specs.Endings.{EndState, Ended, EndsSo, GoesBy, GoesOnBy, HasEnding, IsEndState, ended_at, ended_words}
+use Rattle.hp_every.specs.Endings.{EndState, Ended, EndsSo, GoesBy, GoesOnBy, HasEnding, IsEndState, ended_at, ended_key}
 use Rattle.hp_every.specs.Schedules.{Ends, plan_for}
 use Rattle.hp_every.specs.Search.{Question}
 use Rattle.hp_every.specs.Turns.{turns_of}
@@ -111,22 +111,22 @@ module _ (a : Question) (none : a.conditions ≡ []) (first : EndState) (is : Is
 
   -- the words of a row are those of its state
   row_words : (k : ℕ) (d : EndingRow) (lt : k < length table) → Ends (plan_for a.script) (row_at k d lt).has.last
-      × ((best k lt).how ≡ ended_words (ended_of (get_or table k d)))
+      × ((best k lt).how ≡ ended_key (ended_of (get_or table k d)))
   row_words k d lt =
       let row = row_at k d lt in
       let h = ends_there_too a (state_at k) (right_at k lt).0 (best k lt).how (best k lt).ends row.has in
-      (h.0, h.1 ∙ ap ended_words (sym row.ended))
+      (h.0, h.1 ∙ ap ended_key (sym row.ended))
 
   -- a schedule that ends so is reached
-  kept : (moments : List Moment) (e : Ended) → EndsSo a moments e → IsKeptSo a first moments (Some (ended_words e))
-  kept moments e h = subst (λ (x : Ended). IsKeptSo a first moments (Some (ended_words x))) (sym h.is)
-      (kept_so a none first is empty h.first moments h.last h.run (Some (ended_words (ended_at moments h.last.core)))
+  kept : (moments : List Moment) (e : Ended) → EndsSo a moments e → IsKeptSo a first moments (Some (ended_key e))
+  kept moments e h = subst (λ (x : Ended). IsKeptSo a first moments (Some (ended_key x))) (sym h.is)
+      (kept_so a none first is empty h.first moments h.last h.run (Some (ended_key (ended_at moments h.last.core)))
       (ending_of_words (plan_for a.script) moments h.last h.over))
 
   -- and has a place among the runs
   run_at : (moments : List Moment) (e : Ended) → EndsSo a moments e
       → (place : ℕ) × Contains told.runs (turns_of moments, place) × (place < length counts.states.items)
-      × ((d : EndState) → (get_or counts.states.items place d).ending ≡ Some (ended_words e))
+      × ((d : EndState) → (get_or counts.states.items place d).ending ≡ Some (ended_key e))
   run_at moments e h =
       let u = kept moments e h in
       let leads = subst (λ (names : List Turn). LeadsBy (λ u next t. GoesBy a u next t) first (length moments) names u.state) u.turns
@@ -135,11 +135,11 @@ module _ (a : Question) (none : a.conditions ≡ []) (first : EndState) (is : Is
         | inl lt ↦ lt
         | inr ge ↦ absurd (over (length moments) (turns_of moments) u.state ge leads)
       ] in
-      let at = told.all (length moments) (turns_of moments) u.state (ended_words e) few leads u.ending in
+      let at = told.all (length moments) (turns_of moments) u.state (ended_key e) few leads u.ending in
       let y = told.each (turns_of moments) at.0 at.1 in
       let other = leads_so a first is empty y.0 (turns_of moments) y.1 y.3 in
       let alike = ends_by_turns a y.1 u.state other.0 u.is (other.1 ∙ sym u.turns) in
-      let same : ◌≡◌ {A = Option (List ℕ)} (Some y.4.how) (Some (ended_words e)) = sym y.4.ends ∙ (alike.endings ∙ u.ending) in
+      let same : ◌≡◌ {A = Option (List ℕ)} (Some y.4.how) (Some (ended_key e)) = sym y.4.ends ∙ (alike.endings ∙ u.ending) in
       (at.0, at.1, y.4.there, λ d. y.4.same d ∙ same)
 
   is_shortest : (k : ℕ) (d : EndingRow) (lt : k < length table) → IsShortestSo a (ended_of (get_or table k d)) (get_or table k d).events.items
@@ -184,7 +184,7 @@ module _ (a : Question) (none : a.conditions ≡ []) (first : EndState) (is : Is
             let m = h.has in
             let ends : EndsSo a m.moments e = record { first = m.first; last = m.last; run = m.run; over = h.over; is = h.is } in
             let at = run_at m.moments e ends in
-            let place : at.0 ≡ k = told.rows at.0 k first (ended_words e) at.2 (within k lt) (at.3 first)
+            let place : at.0 ≡ k = told.rows at.0 k first (ended_key e) at.2 (within k lt) (at.3 first)
             ((best k lt).ends ∙ ap (λ (w : List ℕ). Some w) words.1) in
             name_to k told.runs names
             (subst (λ (j : ℕ). Contains told.runs (names, j)) place
@@ -205,8 +205,8 @@ module _ (a : Question) (none : a.conditions ≡ []) (first : EndState) (is : Is
         lt,
         λ d. (
             let words = row_words at.0 d lt in
-            let same : ◌≡◌ {A = Option (List ℕ)} (Some (best at.0 lt).how) (Some (ended_words e)) = sym (best at.0 lt).ends ∙ at.3 first in
-            let how : (best at.0 lt).how ≡ ended_words e = cc in
+            let same : ◌≡◌ {A = Option (List ℕ)} (Some (best at.0 lt).how) (Some (ended_key e)) = sym (best at.0 lt).ends ∙ at.3 first in
+            let how : (best at.0 lt).how ≡ ended_key e = cc in
             one_ended (ended_of (get_or table at.0 d)) e (sym words.1 ∙ how)),
       )
 
@@ -216,7 +216,7 @@ module _ (a : Question) (none : a.conditions ≡ []) (first : EndState) (is : Is
       let x = row_words j d lt in
       let y = row_words k d le in
       told.rows j k first (best j lt).how (within j lt) (within k le) (best j lt).ends
-      ((best k le).ends ∙ ap (λ (w : List ℕ). Some w) (y.1 ∙ (ap ended_words (sym same) ∙ sym x.1)))
+      ((best k le).ends ∙ ap (λ (w : List ℕ). Some w) (y.1 ∙ (ap ended_key (sym same) ∙ sym x.1)))
 
   pub all_rows : AreAllRows a table
   all_rows = record { each = rows_right; all = has_row; one = one_row }

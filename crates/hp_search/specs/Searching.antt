@@ -18,7 +18,7 @@ use Rattle.hp_layers.specs.declared.limits.Limits.{Limits}
 use Rattle.hp_every.specs.declared.turn.Turn.{Turn}
 use Rattle.hp_every.specs.Endings.{Ended, all_among, answers_in}
 use Rattle.hp_every.specs.Schedules.{AnyTurn, IsShortest, NoScheduleMeets, Place, ScheduleMeets, plan_for}
-use Rattle.hp_every.specs.Search.{IsRun, Question, search_words}
+use Rattle.hp_every.specs.Search.{IsRun, Question, search_key}
 use Rattle.hp_every.specs.Turns.{turn_of, turns_of}
 use Rattle.hp_search.specs.declared.reachability.Reachability.{Reachability}
 use Rattle.hp_search.specs.declared.reachability.Reachability.TheVariants.{Never, Met, Cut}
@@ -85,7 +85,7 @@ pub record IsKeyOf (a : Question) (turns : ℕ) (key : List ℕ) : Type 0 where
   pub run : IsRun a first moments last
   pub long : length moments ≡ turns
   pub know : AllKnow a.conditions known moments
-  pub is : key ≡ search_words known last
+  pub is : key ≡ search_key known last
 
 -- no two of these keys are equal, and each is one of so many turns
 pub record AreKeysOf (a : Question) (turns : ℕ) (keys : List (List ℕ)) : Type 0 where

@@ -3,23 +3,24 @@ ghost use Rattle.std.specs.Prelude.{◌≡◌, ◌++◌, ◌∷◌, [], List, Al
 ghost use Rattle.std.specs.List.{AllZip, flat_map};
 ghost use Rattle.hp_base.specs.declared.event.Event.{Event};
 ghost use Rattle.hp_watch.specs.Moments.{Moment};
-ghost use Rattle.hp_every.specs.Endings.{GoesBy, IsEnding, IsEndState, answers_in, answers_words, ended_call_words, ended_words};
+ghost use Rattle.hp_every.specs.Endings.{GoesBy, IsEnding, IsEndState, answers_in, answers_words, ended_call_words, ended_key};
 ghost use Rattle.hp_every.specs.Search.{MayGoOn};
 ghost use Rattle.hp_every.specs.declared.turn.Turn.{Turn};
+ghost use Rattle.hp_key.specs.Packed.{packed};
 ghost use Rattle.hp_search.specs.Searching.{IsAt, IsQuery, ended_here, place_of, question_of};
 
 use crate::key::Key;
-use crate::path::{Made, Path, call_number, make_more, path_at};
+use crate::path::{Made, Path, call_number, make_more, make_one, path_at};
 use crate::position::Position;
 use crate::query::Query;
 use hp_base::{Event, Op};
 use hp_every::Turn;
-use hp_key::{push_answer, push_wide};
+use hp_key::{pack, push_answer, push_wide};
 use hp_watch::EndedCall;
 use std::alloc::{AllocError, Global};
 use std::marker::Model;
 
-/// A schedule, what tells it apart by its answers, too, and how it ends, as words, if it has come to its end.
+/// A schedule, what tells it apart by its answers, too, and how it ends, as a key, if it has come to its end.
 #[derive(Drop)]
 pub(crate) struct EndPath {
     pub(crate) path: Path,
@@ -58,17 +59,18 @@ fn push_answers(words: &mut Vec<u32>, ended: &[EndedCall]) -> Result<(), AllocEr
 
 /// The answers and the key of the place, as one key.
 fn end_key(alloc: Global, position: &Position, key: &Key) -> Result<Key, AllocError>
-    ensures { IfOk result (λ longer. longer ≡ answers_words position.now.answers.ended.items ++ key.now) }
+    ensures { IfOk result (λ longer. longer ≡ packed (answers_words position.now.answers.ended.items) ++ key.now) }
 {
-    let mut words = Vec::with_capacity(alloc, key.words.len())?;
+    let mut words = Vec::new(alloc);
     push_answers(&mut words, &position.answers.ended)?;
-    words.extend_from_slice(&key.words)?;
-    Ok(Key { words })
+    let mut bytes = pack(alloc, &words)?;
+    bytes.extend_from_slice(&key.bytes)?;
+    Ok(Key { bytes })
 }
 
-/// How a schedule ends that stands there, as words.
+/// How a schedule ends that stands there, as a key.
 fn ended_key(alloc: Global, position: &Position) -> Result<Key, AllocError>
-    ensures { IfOk result (λ key. key ≡ ended_words (ended_here position.now)) }
+    ensures { IfOk result (λ key. key ≡ ended_key (ended_here position.now)) }
 {
     let core = position.walk.core();
     let mut words = Vec::new(alloc);
@@ -76,10 +78,11 @@ fn ended_key(alloc: Global, position: &Position) -> Result<Key, AllocError>
     words.push(core.resv())?;
     words.push(core.used())?;
     push_answers(&mut words, &position.answers.ended)?;
-    Ok(Key { words })
+    let bytes = pack(alloc, &words)?;
+    Ok(Key { bytes })
 }
 
-/// How a schedule ends that stands there, as words, if no turn may be made.
+/// How a schedule ends that stands there, as a key, if no turn may be made.
 fn ending_at(alloc: Global, query: Query, position: &Position) -> Result<Option<Key>, AllocError>
     ensures { IfOk result (λ ending. (moments : List Moment) → position.now.answers.ended.items ≡ answers_in moments
         → IsEnding query.entry.plan.now moments (place_of position.now) ending) }
@@ -110,37 +113,42 @@ pub(crate) fn end_path_at(
     Ok(EndPath { path, key, ending })
 }
 
-/// The schedule with one turn more.
-fn end_path_behind(
-    alloc: Global,
-    query: Query,
-    from: &EndPath,
-    turn: Turn,
-) -> Result<EndPath, AllocError>
+/// The schedule with one turn more, which was made.
+fn end_path_of(alloc: Global, query: Query, made: Made) -> Result<EndPath, AllocError>
     requires planned { IsQuery query }
-    requires may { MayGoOn (question_of query) from.now.path.turns turn }
-    ensures { IfOk result (GoesBy (question_of query.entry) from.now turn) }
+    requires at { (events : List Event) × IsAt (question_of query) made.turns.items events made.position }
+    ensures state { IfOk result (IsEndState (question_of query.entry)) }
+    ensures turns { IfOk result (λ next. next.path.turns ≡ made.turns.items) }
 {
-    let Made { turns, position } = make_more(alloc, query, &from.path.turns, turn)?;
+    let Made { turns, position } = made;
     end_path_at(alloc, query, turns, &position)
 }
 
-/// The schedules with one of these turns more.
+/// The schedules with one of these turns more. The position is where the schedule stands; the last of the turns is made from there, and for
+/// each of the others the schedule is made again.
 pub(crate) fn end_paths_behind(
     alloc: Global,
     query: Query,
     from: &EndPath,
+    position: Position,
     turns: &[Turn],
 ) -> Result<Vec<EndPath>, AllocError>
     requires planned { IsQuery query }
+    requires at { (events : List Event) × IsAt (question_of query) from.now.path.turns events position }
     requires may { All (MayGoOn (question_of query) from.now.path.turns) turns.now }
     ensures { IfOk result (λ next. AllZip (GoesBy (question_of query.entry) from.now) turns.now next.items) }
 {
     // The checker of borrows asks for a mention of the types that an event may hold.
     let _none: (Option<Event>, Option<Op>) = (None, None);
     let mut next = Vec::with_capacity(alloc, turns.len())?;
-    for turn in turns {
-        next.push(end_path_behind(alloc, query, from, *turn)?)?;
+    let Some(last) = turns.len().checked_sub(1) else {
+        return Ok(next);
+    };
+    for place in 0..last {
+        let made = make_more(alloc, query, &from.path.turns, turns[place])?;
+        next.push(end_path_of(alloc, query, made)?)?;
     }
+    let made = make_one(alloc, query, &from.path.turns, position, turns[last])?;
+    next.push(end_path_of(alloc, query, made)?)?;
     Ok(next)
 }

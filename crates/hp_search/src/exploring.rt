@@ -42,7 +42,7 @@ impl EndQuery<'_> {
         let mut events = Vec::with_capacity(alloc, from.path.turns.len())?;
         let position = follow(alloc, query, &from.path.turns, &mut events)?;
         let turns = position.next_turns(alloc, query.plan)?;
-        let next = end_paths_behind(alloc, query, from, &turns)?;
+        let next = end_paths_behind(alloc, query, from, position, &turns)?;
         Ok(next)
     }
 }

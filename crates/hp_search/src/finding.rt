@@ -42,7 +42,7 @@ impl Turns for Query<'_> {
         let mut events = Vec::with_capacity(alloc, path.turns.len())?;
         let position = follow(alloc, query, &path.turns, &mut events)?;
         let turns = position.next_turns(alloc, query.plan)?;
-        let next = paths_behind(alloc, query, path, &turns)?;
+        let next = paths_behind(alloc, query, path, position, &turns)?;
         Ok(next)
     }
 

@@ -10,10 +10,10 @@ use std::alloc::{AllocError, Global};
 use std::hash::{Hash, Hasher};
 use std::marker::Model;
 
-/// The words of a place, and of what was seen on the way there.
+/// What tells a place, and what was seen on the way there, as bytes.
 #[derive(Drop)]
 pub(crate) struct Key {
-    pub(crate) words: Vec<u32>,
+    pub(crate) bytes: Vec<u8>,
 }
 
 impl Model for Key {
@@ -21,7 +21,7 @@ impl Model for Key {
 
     ghost Value = { List ℕ };
 
-    ghost view = { λ key. key.words.items };
+    ghost view = { λ key. key.bytes.items };
 }
 
 impl Key {
@@ -29,8 +29,8 @@ impl Key {
     pub(crate) fn copy(&self, alloc: Global) -> Result<Key, AllocError>
         ensures { IfOk result (λ key. key ≡ self.now) }
     {
-        let words = self.words.to_vec(alloc)?;
-        Ok(Key { words })
+        let bytes = self.bytes.to_vec(alloc)?;
+        Ok(Key { bytes })
     }
 }
 
@@ -40,7 +40,7 @@ impl PartialEq for Key {
     ghost laws = { partial_equiv_from_equiv nat_list_eq_equiv };
 
     fn eq(&self, other: &Key) -> bool {
-        self.words == other.words
+        self.bytes == other.bytes
     }
 }
 
@@ -49,11 +49,11 @@ impl Eq for Key {
 }
 
 impl Hash for Key {
-    ghost hash_input = { λ key. fed.slice fed.u32 key };
+    ghost hash_input = { λ key. fed.slice fed.u8 key };
 
     ghost respects_eq = { Prim.search (hashing, rules) };
 
     fn hash<H: Hasher>(&self, state: &mut H) {
-        self.words.hash(state);
+        self.bytes.hash(state);
     }
 }

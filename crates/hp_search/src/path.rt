@@ -5,7 +5,7 @@ ghost use Rattle.hp_core.specs.State.{CoreState};
 ghost use Rattle.hp_hunt.specs.Watching.{AllKnow, known_of};
 ghost use Rattle.hp_key.specs.Numbers.{counted, wide};
 ghost use Rattle.hp_watch.specs.Moments.{Moment, last_of};
-ghost use Rattle.hp_every.specs.Search.{AreBehind, IsPath, MayGoOn, MeetsHere, call_number, calls_words, search_words, watch_words};
+ghost use Rattle.hp_every.specs.Search.{AreBehind, IsPath, MayGoOn, MeetsHere, call_number, calls_words, search_key, search_words, watch_words};
 ghost use Rattle.hp_every.specs.Schedules.{IsFinal};
 ghost use Rattle.hp_search.specs.Searching.{IsAt, IsQuery, question_of, place_of};
 ghost use Rattle.hp_hunt.specs.declared.condition.Condition.{Condition};
@@ -19,7 +19,7 @@ use crate::query::Query;
 use hp_base::{Event, Op};
 use hp_every::Turn;
 use hp_hunt::{Condition, Sought, Watch};
-use hp_key::push_wide;
+use hp_key::{pack, push_key, push_wide};
 use hp_watch::{CallWord, TaskCalls};
 use std::alloc::{AllocError, Global};
 use std::marker::Model;
@@ -96,8 +96,8 @@ fn push_made(words: &mut Vec<u32>, made: &[usize]) -> Result<(), AllocError>
 const ROOM: usize = 256;
 
 /// The words of a place, and of what was seen on the way.
-fn search_key(alloc: Global, position: &Position) -> Result<Key, AllocError>
-    ensures { IfOk result (λ key. key ≡ search_words (known_of position.now.watches) (place_of position.now)) }
+fn search_words(alloc: Global, position: &Position) -> Result<Vec<u32>, AllocError>
+    ensures { IfOk result (λ words. words.items ≡ search_words (known_of position.now.watches) (place_of position.now)) }
 {
     let mut words = Vec::with_capacity(alloc, ROOM)?;
     let calls = position.watches.calls().tasks();
@@ -107,9 +107,17 @@ fn search_key(alloc: Global, position: &Position) -> Result<Key, AllocError>
     words.push(position.denials)?;
     words.push(position.kills)?;
     push_made(&mut words, position.walk.made())?;
-    let core = hp_key::key(alloc, position.walk.core())?;
-    words.extend_from_slice(&core)?;
-    Ok(Key { words })
+    push_key(&mut words, position.walk.core())?;
+    Ok(words)
+}
+
+/// The key of a place, and of what was seen on the way there.
+fn search_key(alloc: Global, position: &Position) -> Result<Key, AllocError>
+    ensures { IfOk result (λ key. key ≡ search_key (known_of position.now.watches) (place_of position.now)) }
+{
+    let words = search_words(alloc, position)?;
+    let bytes = pack(alloc, &words)?;
+    Ok(Key { bytes })
 }
 
 /// Whether the condition is one on a whole schedule.
@@ -171,6 +179,31 @@ pub(crate) struct Made {
     pub(crate) position: Position,
 }
 
+/// Makes one turn more, of a schedule of these turns that stands there.
+pub(crate) fn make_one(
+    alloc: Global,
+    query: Query,
+    turns: &[Turn],
+    position: Position,
+    turn: Turn,
+) -> Result<Made, AllocError>
+    requires planned { IsQuery query }
+    requires may { MayGoOn (question_of query) turns.now turn }
+    requires at { (events : List Event) × IsAt (question_of query) turns.now events position }
+    ensures at { IfOk result (λ made. (events : List Event) × IsAt (question_of query.entry) made.turns.items events made.position) }
+    ensures turns { IfOk result (λ made. made.turns.items ≡ turns.now ++ turn ∷ []) }
+{
+    // The checker of borrows asks for a mention of the type that an event may hold.
+    let _none: (Option<Event>, Option<Op>) = (None, None);
+    let mut position = position;
+    position.make(query.plan, turn)?;
+    let mut longer = Vec::with_capacity(alloc, turns.len().saturating_add(1))?;
+    longer.extend_from_slice(turns)?;
+    longer.push(turn)?;
+    let turns = longer;
+    Ok(Made { turns, position })
+}
+
 /// Makes the turns again, and one more.
 pub(crate) fn make_more(
     alloc: Global,
@@ -186,40 +219,44 @@ pub(crate) fn make_more(
     // The checker of borrows asks for a mention of the type that an event may hold.
     let _none: (Option<Event>, Option<Op>) = (None, None);
     let mut events = Vec::with_capacity(alloc, turns.len())?;
-    let mut position = follow(alloc, query, turns, &mut events)?;
-    position.make(query.plan, turn)?;
-    let mut longer = Vec::with_capacity(alloc, turns.len().saturating_add(1))?;
-    longer.extend_from_slice(turns)?;
-    longer.push(turn)?;
-    let turns = longer;
-    Ok(Made { turns, position })
+    let position = follow(alloc, query, turns, &mut events)?;
+    make_one(alloc, query, turns, position, turn)
 }
 
-/// The schedule with one turn more.
-fn path_behind(alloc: Global, query: Query, path: &Path, turn: Turn) -> Result<Path, AllocError>
+/// The schedule with one turn more, which was made.
+fn path_of(alloc: Global, query: Query, made: Made) -> Result<Path, AllocError>
     requires planned { IsQuery query }
-    requires may { MayGoOn (question_of query) path.now.turns turn }
+    requires at { (events : List Event) × IsAt (question_of query) made.turns.items events made.position }
     ensures path { IfOk result (IsPath (question_of query.entry)) }
-    ensures turns { IfOk result (λ next. next.turns ≡ path.now.turns ++ turn ∷ []) }
+    ensures turns { IfOk result (λ next. next.turns ≡ made.turns.items) }
 {
-    let Made { turns, position } = make_more(alloc, query, &path.turns, turn)?;
+    let Made { turns, position } = made;
     path_at(alloc, query, turns, &position)
 }
 
-/// The schedules with one of these turns more.
+/// The schedules with one of these turns more. The position is where the schedule stands; the last of the turns is made from there, and for
+/// each of the others the schedule is made again.
 pub(crate) fn paths_behind(
     alloc: Global,
     query: Query,
     path: &Path,
+    position: Position,
     turns: &[Turn],
 ) -> Result<Vec<Path>, AllocError>
     requires planned { IsQuery query }
+    requires at { (events : List Event) × IsAt (question_of query) path.now.turns events position }
     requires may { All (MayGoOn (question_of query) path.now.turns) turns.now }
     ensures { IfOk result (λ next. AreBehind (question_of query.entry) path.now turns.now next.items) }
 {
     let mut next = Vec::with_capacity(alloc, turns.len())?;
-    for turn in turns {
-        next.push(path_behind(alloc, query, path, *turn)?)?;
+    let Some(last) = turns.len().checked_sub(1) else {
+        return Ok(next);
+    };
+    for place in 0..last {
+        let made = make_more(alloc, query, &path.turns, turns[place])?;
+        next.push(path_of(alloc, query, made)?)?;
     }
+    let made = make_one(alloc, query, &path.turns, position, turns[last])?;
+    next.push(path_of(alloc, query, made)?)?;
     Ok(next)
 }

@@ -4,5 +4,5 @@ use Rattle.hp_every.specs.Search.{AreBehind}
 use Rattle.hp_search.specs.Searching.{question_of}
 use Rattle.hp_search.proofs.path.paths_behind.Given as goal
 
-abbrev pub invariant-loop-turn : goal.invariant-loop-turn
-invariant-loop-turn l = AreBehind (question_of l.query) l.path (take l.turn-index l.turns) l.next.items
+abbrev pub invariant-loop-place : goal.invariant-loop-place
+invariant-loop-place l = AreBehind (question_of l.query) l.path (take l.place l.turns) l.next.items

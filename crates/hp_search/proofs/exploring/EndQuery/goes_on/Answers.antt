@@ -32,6 +32,16 @@ end_paths_behind-requires-clause-may c =
     subst (λ (next : List Turn). All (MayGoOn a turns) next) (sym c.deref-2.ensures.value)
     (goes_on a turns (has_at a turns c.follow.new.events.items c.in_ok-position.position at) c.in_ok-turns.turns.items all)
 
+pub end_paths_behind-requires-clause-at : goal.end_paths_behind-requires-clause-at
+end_paths_behind-requires-clause-at c =
+    let a = question_of c.args.self.now.query in
+    let here : c.deref.result.now ≡ c.args.from.now.path.turns =
+    c.deref.ensures.value ∙ ((λ i. (c.from-inside.view_is i).path.turns) ∙ ap (λ (s : EndState). s.path.turns) c.from.view_is) in (
+      c.follow.new.events.items,
+      subst (λ (xs : List Turn). IsAt a xs c.follow.new.events.items c.in_ok-position.position) here
+          c.in_ok-position.ensures,
+    )
+
 pub returns : goal.returns
 returns c =
     let a = question_of c.args.self.now.query in

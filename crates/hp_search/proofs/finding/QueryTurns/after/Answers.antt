@@ -21,6 +21,15 @@ paths_behind-requires-clause-may c =
     subst (λ (next : List Turn). All (MayGoOn a turns) next) (sym c.deref-2.ensures.value)
     (goes_on a turns (has_at a turns c.follow.new.events.items c.in_ok-position.position at) c.in_ok-turns.turns.items all)
 
+pub paths_behind-requires-clause-at : goal.paths_behind-requires-clause-at
+paths_behind-requires-clause-at c =
+    let a = question_of c.args.self.now in
+    let here : c.deref.result.now ≡ c.args.path.now.turns = c.deref.ensures.value ∙ ap (λ (s : PathState). s.turns) c.path.view_is in (
+      c.follow.new.events.items,
+      subst (λ (xs : List Turn). IsAt a xs c.follow.new.events.items c.in_ok-position.position) here
+          c.in_ok-position.ensures,
+    )
+
 pub returns : goal.returns
 returns c =
     let a = question_of c.args.self.now in

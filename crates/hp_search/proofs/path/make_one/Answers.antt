@@ -5,22 +5,22 @@ use Rattle.hp_every.specs.Schedules.{MayTurn}
 use Rattle.hp_search.specs.Searching.{IsAt, IsMade, question_of, place_of}
 use Rattle.hp_search.proofs.Kept.{behind_may}
 use Rattle.hp_search.proofs.Made.{at_more}
-use Rattle.hp_search.proofs.path.make_more.Goals as goal
+use Rattle.hp_search.proofs.path.make_one.Goals as goal
 
 pub make-requires : goal.make-requires
 make-requires c =
     let a = question_of c.args.query in
-    subst (λ (plan : Plan). MayTurn plan (place_of c.in_ok-position.position) c.args.turn) (sym c.requires.planned)
-    (behind_may a c.args.turns.now c.follow.new.events.items c.in_ok-position.position c.args.turn c.requires.may c.in_ok-position.ensures)
+    subst (λ (plan : Plan). MayTurn plan (place_of c.args.position) c.args.turn) (sym c.requires.planned)
+    (behind_may a c.args.turns.now c.requires.at.0 c.args.position c.args.turn c.requires.may c.requires.at.1)
 
 pub returns-clause-at : goal.returns-clause-at
 returns-clause-at c =
     let a = question_of c.args.query in
-    let events = c.follow.new.events.items in
+    let events = c.requires.at.0 in
     let turn = c.args.turn in
-    let made = subst (λ (plan : Plan). IsMade plan c.in_ok-position.position turn c.in_ok-make.field-0 c.make.new.self) c.requires.planned
+    let made = subst (λ (plan : Plan). IsMade plan c.args.position turn c.in_ok-make.field-0 c.make.new.self) c.requires.planned
     c.in_ok-make.ensures in
-    let more = at_more a c.args.turns.now events c.in_ok-position.position c.make.new.self turn c.in_ok-make.field-0 c.in_ok-position.ensures made in
+    let more = at_more a c.args.turns.now events c.args.position c.make.new.self turn c.in_ok-make.field-0 c.requires.at.1 made in
     let whole : c.push.new.self.items ≡ c.args.turns.now ++ turn ∷ [] =
     c.in_ok-push.ensures.items ∙ ap (λ (xs : List Turn). xs ++ turn ∷ []) (c.in_ok-extend_from_slice.ensures.items
     ∙ (λ i. c.in_ok-longer.ensures.items i ++ c.args.turns.now)) in (

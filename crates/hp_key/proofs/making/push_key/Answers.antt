@@ -8,7 +8,7 @@ use Rattle.hp_table.specs.Table.{Table}
 use Rattle.hp_key.specs.Key.{file_words, space_words}
 use Rattle.hp_key.specs.Numbers.{counted, maybe, number_words}
 use Rattle.hp_key.proofs.Made.{made, pages_there}
-use Rattle.hp_key.proofs.making.key.Goals as goal
+use Rattle.hp_key.proofs.making.push_key.Goals as goal
 
 pub push_holders-requires : goal.push_holders-requires
 unfolding config_of
@@ -31,14 +31,13 @@ push_files-requires-clause-placed c =
 pub returns : goal.returns
 returns c =
     let p = state_of c.parts-parts.result.now in
-    made c.args.core.now p c.task_states.result.now c.in_ok-words.words.items c.push_maybe.new.words.items c.push.new.self.items
+    made c.args.core.now p c.task_states.result.now c.args.words.now.items c.push_maybe.new.words.items c.push.new.self.items
     c.push-2.new.self.items c.push_frames.new.words.items c.push_holders.new.words.items c.push_holders-2.new.words.items
     c.push_files.new.words.items c.push_spaces.new.words.items c.push_tasks.new.words.items c.parts-parts.ensures.parts
     c.task_states.ensures
     (record {
-      none = c.in_ok-words.ensures.items;
       quota = c.in_ok-push_maybe.ensures
-          ∙ ap (λ (q : Option ℕ). c.in_ok-words.words.items ++ maybe number_words q) c.quota.ensures;
+          ∙ ap (λ (q : Option ℕ). c.args.words.now.items ++ maybe number_words q) c.quota.ensures;
       resv = c.in_ok-push.ensures.items ∙ ap (λ (n : ℕ). c.push_maybe.new.words.items ++ n ∷ []) c.resv.ensures.resv;
       used = c.in_ok-push-2.ensures.items ∙ ap (λ (n : ℕ). c.push.new.self.items ++ n ∷ []) c.used.ensures.used;
       frames = c.in_ok-push_frames.ensures;

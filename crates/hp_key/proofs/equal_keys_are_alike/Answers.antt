@@ -1,5 +1,5 @@
 use Rattle.hp_key.proofs.Same.{same_key}
-use Rattle.hp_key.proofs.equal_keys_are_one_state.Goals as goal
+use Rattle.hp_key.proofs.equal_keys_are_alike.Goals as goal
 
 pub returns : goal.returns
 returns c = same_key
