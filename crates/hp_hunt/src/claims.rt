@@ -2,7 +2,7 @@
 //!
 //! A counter that all workers share tells how many turns they made. It is a mere hint: no clause knows what it tells. A run that meets all
 //! conditions needn't be the first that does: the first is looked for at the end, in order.
-ghost use Rattle.std.specs.Prelude.{◌≡◌, ◌<◌, None, IfOk, IfSome};
+ghost use Rattle.std.specs.Prelude.{◌≡◌, ◌<◌, None, IfOk, IfSome, is_some};
 ghost use Rattle.hp_hunt.specs.Claims.{AllMiss, IsFirstOf, IsPart, TellsOf};
 
 use crate::condition::Condition;
@@ -61,7 +61,9 @@ impl Work for Search<'_> {
     }
 
     /// No run behind one that meets them is the first.
-    fn is_last(&self, events: &Option<Vec<Event>>) -> bool {
+    fn is_last(&self, events: &Option<Vec<Event>>) -> bool
+        ensures { result ≡ is_some events.now }
+    {
         events.is_some()
     }
 }
