@@ -1,7 +1,8 @@
 #!/usr/bin/env python3
 """Writes what is made of the repository's own texts, or compares it.
 
-usage: gate/page.py           says whether files are what it would write, and tries the page's functions that read a run (needs node)
+usage: gate/page.py           says whether files are what it would write, and tries the page: its functions in node, and clicks in the browsers
+                              that are there
        gate/page.py --write   writes them
 
 docs/INDEX.md has of each operation its phases as a graph, and of each phase its row, the function that does it, the lemma that says what
@@ -17,7 +18,9 @@ import re
 import shutil
 import subprocess
 import sys
+import tempfile
 from functools import cache
+from pathlib import Path
 from typing import Iterator, NamedTuple
 
 from edit import Function, mutants_of
@@ -53,13 +56,19 @@ HOLDERS = {"s.locks": "the file lock", "s.slots": "the slot"}
 CARRIED = {"p.answer", "carried"}
 PAGE, SOURCES = CRATES / "hp_page" / "page", CRATES / "hp_page" / "src"
 # what stands where page.html says {{..}}
-PIECES = {"style": ["page.css"], "help": ["help.html"]}
+PIECES = {"style": ["viewer.css", "page.css"], "legend": ["legend.html"], "help": ["help.html"]}
+# the script's files, by the constants that hold them
+SCRIPTS = (
+    ("run.js", "moments.js", "search.js"),
+    ("places.js", "lanes.js", "marks.js", "curves.js", "picture.js"),
+    ("dom.js", "viewer.js", "says.js", "page.js"),
+)
 SCRIPT, DATA = "{{script}}", "{{run}}"
 # each module that is made, with what its constant holds
 MODULES = {
     "front": "the page up to its script",
-    "run_script": "the functions that read a run",
-    "picture_script": "the functions that search a run, and those that draw it",
+    "run_script": "the functions that read a run, and search it",
+    "picture_script": "the functions that draw a run",
     "page_script": "the rest of the script, and what stands between it and the data",
     "tail": "what stands behind the data",
 }
@@ -253,7 +262,8 @@ def parts() -> dict[str, str]:
     between, data, tail = rest.partition(DATA)
     if not script or not data or "{{" in front + between + tail:
         sys.exit(f"page: page.html says {SCRIPT} and then {DATA} once, and each other piece by its name")
-    texts = front, read("run.js"), read("search.js", "picture.js"), read("page.js") + between, tail
+    run, picture, rest = (read(*files) for files in SCRIPTS)
+    texts = front, run, picture, rest + between, tail
     return dict(zip(MODULES, texts, strict=True))
 
 
@@ -273,16 +283,27 @@ def module(name: str, text: str) -> str:
     return TEXT.format(what=MODULES[name], name=name.upper(), gap="\n    ", text=text)
 
 
-def tried() -> tuple[int, int]:
-    """How many tries of the page's functions passed, and how many failed."""
-    if not shutil.which("node"):
-        print("left out: the page's functions that read a run: they need node")
-        return 0, 0
+def ran(*words: str | Path) -> tuple[int, int]:
+    """How many tries of a script passed, and how many failed; its other lines are printed."""
     how = {"stdin": subprocess.DEVNULL, "stdout": subprocess.PIPE, "stderr": subprocess.STDOUT, "text": True}
-    ran = subprocess.run(["node", TOP / "gate" / "page_test.mjs"], **how)
-    counts = COUNTS.search(ran.stdout)
-    print(COUNTS.sub("", ran.stdout).rstrip())
+    printed = subprocess.run(["node", *words], **how).stdout
+    counts = COUNTS.search(printed)
+    print("".join(f"{it}\n" for it in COUNTS.sub("", printed).splitlines() if it), end="")
     return (int(counts[1]), int(counts[2])) if counts else (0, 1)
+
+
+def tried() -> tuple[int, int]:
+    """How many tries of the page's functions, and of the page in browsers, passed, and how many failed."""
+    if not shutil.which("node"):
+        print("left out: the page's functions that read a run, and clicks on it: they need node")
+        return 0, 0
+    with tempfile.TemporaryDirectory(prefix="page-") as name:
+        files = Path(name) / "head", Path(name) / "tail"
+        for file, text in zip(files, page(), strict=True):
+            file.write_text(text, encoding="utf-8")
+        counts = ran(TOP / "gate" / "page_test.mjs"), ran(TOP / "gate" / "page_clicks.mjs", *files)
+    passed, failed = (sum(it) for it in zip(*counts))
+    return passed, failed
 
 
 def main(words: list[str]) -> int:

@@ -5,10 +5,12 @@ import fs from "node:fs";
 import vm from "node:vm";
 
 const PAGE = new URL("../crates/hp_page/page/", import.meta.url);
-const SOURCES = ["run.js", "search.js", "picture.js", "page.js"];
+const SOURCES = [
+  ..."run moments search places lanes marks curves picture dom viewer says page".split(" ").map((it) => `${it}.js`),
+];
 const NAMES = [
   ..."readRun, standingAt, waitAt, lifeAt, findEvents, nextMatch, rangeOf, seriesOf, eventAt, eventWords, outcomeWords, waitWords".split(", "),
-  ..."view, topOf, drawCurves, drawLanes, sayCounts, sayWaits".split(", "),
+  ..."extendRun, countsAt, waitGroups, groupWords, view, topOf, drawCurves, drawLanes, drawLegend, sayCounts, sayWaits".split(", "),
 ];
 
 // ---- a page without a browser
@@ -16,7 +18,7 @@ const NAMES = [
 /** An element, which knows its words and what is in it. */
 function newElement() {
   const made = {
-    own: "", inside: [], style: {}, getContext: () => newContext(), addEventListener: () => {}, setAttribute: () => {},
+    own: "", inside: [], style: {}, value: "", context: newContext(), getContext: () => made.context, addEventListener: () => {}, setAttribute: () => {},
     append: (...more) => made.inside.push(...more), replaceChildren: (...more) => { made.inside = more; },
     set textContent(words) { made.own = `${words}`; },
     get textContent() { return made.own + made.inside.map((it) => it.textContent ?? it).join(" "); },
@@ -24,11 +26,14 @@ function newElement() {
   return made;
 }
 
-/** What draws, and keeps the corners of each line with its colour. */
+/** What draws, and keeps the corners of each line and each box with its colour, and all words. */
 function newContext() {
   const lines = [];
+  const words = [];
+  const boxes = [];
   let corners = [];
   const kept = {
+    words, fillText: (text) => words.push(text), boxes, fillRect: (left, top, width) => boxes.push({ colour: kept.fillStyle, left, width }),
     lines, beginPath: () => { corners = []; }, moveTo: (x, y) => corners.push([x, y]), lineTo: (x, y) => corners.push([x, y]),
     stroke: (path) => lines.push({ colour: kept.strokeStyle, corners: path ? [] : corners }), measureText: (words) => ({ width: words.length * 6 }),
   };
@@ -44,7 +49,7 @@ const sandbox = {
 const source = SOURCES.map((name) => fs.readFileSync(new URL(name, PAGE), "utf8")).join("");
 const page = vm.runInNewContext(`"use strict";(() => {${source}; return { ${NAMES.join(", ")} }; })()`, sandbox);
 const { readRun, standingAt, waitAt, lifeAt, findEvents, nextMatch, rangeOf, seriesOf, eventAt, eventWords, outcomeWords, waitWords } = page;
-const { view, topOf, drawCurves, drawLanes, sayCounts, sayWaits } = page;
+const { extendRun, countsAt, waitGroups, groupWords, view, topOf, drawCurves, drawLanes, drawLegend, sayCounts, sayWaits } = page;
 
 // task 1 maps, and holds the lock of file 0; task 2's truncation waits for it; then a resize, a kill, a refusal and a store of a long word
 const COUNTS = '"free":4,"resv":0,"owed":0';
@@ -148,6 +153,10 @@ const curves = view.context.lines.filter((it) => it.corners.length > 2);
 const drawn = curves.map(({ colour, corners }, place) => [colour, ...[corners[0], corners.at(-1)].map(([, y]) => countOf(view.panels[place < 3 ? 0 : 1], y))]);
 expect("curves, each with its first count and its last", drawn, [["free", 9, 7], ["resv", 1, 3], ["used", 3, 5], ["resv", 1, 3], ["bare", 1, 2]]);
 view.context = newContext();
+view.picked = 2;
+drawLegend(view);
+expect("curves are named, with their counts", view.context.words, ["free 7", "resv 3", "used 5", "resv 3", "no page 2", "owed 1"]);
+view.context = newContext();
 drawLanes(view);
 const ends = view.context.lines.filter((it) => it.colour === "wait" && it.corners.length === 2).map((it) => it.corners[1][1]);
 const below = (row) => topOf(view, row) + view.tall;
@@ -156,7 +165,37 @@ sayWaits(2);
 const said = "task 2 waits for 1: lock of file 0, since line 3 task 3 waits for 2: slot 1, file 1 index 0, since line 4";
 expect("each wait is told", byId("waits").textContent.replace(/ +/g, " "), said);
 sayCounts(2);
-expect("counts are told", byId("counts").textContent, "free 7 resv 3 reserved without a page 2 owed 1 used of the quota 5 of 6");
+expect("counts are told", byId("counts").textContent, "free 7 resv 3 no page 2 owed 1 used of the quota 5 of 6");
+
+// a run that is extended is the run that is read at once, wherever it was cut before, and whatever came there
+for (let kept = 0; kept <= run.count; kept++) {
+  const grown = readRun(LINES.join("\n"));
+  extendRun(grown, kept, MANY.slice(2, 4).map((line) => line.replace(/"waits.*/, `"at":"room"}`)));
+  extendRun(grown, kept, LINES.slice(kept + 1));
+  const parts = ({ lines, count, end, lanes, counts, columns }) => JSON.stringify([
+    lines, count, end, lanes, counts.free.least, counts.resv.greatest, counts.bare.top, ["free", "task", "call", "index"].map((name) => [...columns[name].subarray(0, count)]),
+  ]);
+  expect(`a run that is extended behind ${kept} events`, parts(grown), parts(run));
+}
+expect("counts before the first event", countsAt(many, -1), { free: 9, resv: 0, bare: 0, owed: 0, used: 0 });
+
+// 61 tasks wait for the one that holds the lock
+const CROWD = [
+  '{"pool":{"frames":4,"files":1,"slots":4,"tasks":64}}',
+  `{"line":2,"task":55,"event":"begin","op":"map","numbers":[0,0,4],"outcome":"begun","at":"start",${COUNTS},"waits":[${Array.from({ length: 61 }, (_, at) => waiting(at < 54 ? at + 1 : at + 2, 55)).join()}]}`,
+];
+expect("many waits in a line", waitGroups(readRun(CROWD.join("\n")), 0).map(groupWords), ["61 wait for task 55: lock of file 0"]);
+
+// a run of 4,000 events in 2,000 pixels: each tile has its curves from its first pixel to its last
+const wide = readRun([MANY[0], ...Array.from({ length: 4000 }, (_, at) => `{${moved(at + 2, 1, 0, at % 2)},${counts(at % 2 ? 5 : 6, 2, 1, 4)}}`)].join("\n"));
+Object.assign(view, { run: wide, tiles: new Map(), step: 0.5, width: 1100, context: newContext(), sight: { from: 0, to: 2200 } });
+drawCurves(view);
+for (const [name, tile] of view.tiles) {
+  const free = tile.context.boxes.filter((it) => it.colour === (name.startsWith("free") ? "free" : "bare"));
+  const isWhole = free.reduce((end, it) => (it.left === end ? end + it.width : end), 0) >= 512;
+  expect(`the curves of tile ${name}`, isWhole, true);
+}
+expect("tiles of curves", view.tiles.size, 6);
 
 const cut = readRun(LINES.slice(0, 5).join("\n").slice(0, -30));
 expect("data that are cut", [cut.count, cut.end], [3, null]);

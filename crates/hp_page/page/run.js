@@ -2,11 +2,6 @@
 
 // answers of a call that did what it was to do; all others are failures
 const SUCCESSES = new Set(["mapped", "word", "done"]);
-// the functions of Linux by which calls begin and end, where no move of the run names them (docs/MACHINE.md, "The phases in Linux")
-const OUTER_FUNCTIONS = {
-  look: "hugetlb_fault", start: "inode_lock", "unmap start": "find_vma", "exit start": "find_vma",
-  leave: "inode_unlock", "load leave": "mutex_unlock", "store leave": "mutex_unlock", "exit leave": "do_exit",
-};
 const MARKS = ["blocked", "refused", "denied", "killed", "failed", "resized"];
 // counts are summed up in blocks of so many events
 const BLOCK = 64;
@@ -33,16 +28,23 @@ const lastUpTo = (numbers, bound) => countBelow(numbers, bound + 1) - 1;
 // ---- counts
 
 /** A count behind each event, with the least and the greatest of each block. */
-function seriesOf(values) {
-  const blocks = Math.ceil(values.length / BLOCK);
-  const series = { values, least: new Int32Array(blocks), greatest: new Int32Array(blocks), top: 0 };
-  for (let block = 0; block < blocks; block++) {
-    const part = values.subarray(block * BLOCK, (block + 1) * BLOCK);
+function seriesOf(values, count = values.length) {
+  const series = { values, least: [], greatest: [], top: 0 };
+  followSeries(series, values, 0, count);
+  return series;
+}
+
+/** Sums up the blocks from that of an event on; values before it are as they were. */
+function followSeries(series, values, from, count) {
+  series.values = values;
+  const blocks = Math.ceil(count / BLOCK);
+  series.least.length = series.greatest.length = blocks;
+  for (let block = Math.floor(from / BLOCK); block < blocks; block++) {
+    const part = values.subarray(block * BLOCK, Math.min((block + 1) * BLOCK, count));
     series.least[block] = part.reduce((one, other) => Math.min(one, other));
     series.greatest[block] = part.reduce((one, other) => Math.max(one, other));
-    series.top = Math.max(series.top, series.greatest[block]);
   }
-  return series;
+  series.top = series.greatest.reduce((one, other) => Math.max(one, other), 0);
 }
 
 /** The least and the greatest value behind the events from one to before another. */
@@ -146,6 +148,26 @@ function endLane(lane, at) {
   endCall(lane, at, false);
 }
 
+/** Ends a list's spans at an event: forgets those behind it, and returns the one that goes on there, which is taken off the list. */
+function reopenSpan(spans, at) {
+  const place = countBelow(spans.until, at);
+  const goesOn = place < spans.since.length && spans.since[place] < at;
+  const open = goesOn ? Object.fromEntries(Object.entries(spans).map(([name, list]) => [name, list[place]])) : null;
+  for (const list of Object.values(spans)) list.length = place;
+  return open;
+}
+
+/** Forgets what came behind so many events; what was in flight there is so again. */
+function cutLane(lane, at) {
+  for (const list of [lane.events, ...Object.values(lane.marks)]) list.length = countBelow(list, at);
+  const stay = reopenSpan(lane.stays, at);
+  const call = reopenSpan(lane.calls, at);
+  lane.standing = stay && { begun: call.since, since: stay.since, phase: stay.phase, operation: stay.operation };
+  lane.waiting = reopenSpan(lane.waits, at);
+}
+
+const isEmptyLane = (lane) => lane.events.length === 0 && lane.waits.since.length === 0 && !lane.waiting;
+
 // ---- words, as small numbers
 
 /** Numbers words from 1 on; 0 stands for none. */
@@ -220,111 +242,55 @@ function parsed(line) {
   }
 }
 
-/** Reads the events up to the end, or up to the first line that is none. */
-function readEvents(run, laneOf) {
-  for (let at = 0; at + 1 < run.lines.length; at++) {
-    const said = parsed(run.lines[at + 1]);
-    if (said?.end) return { count: at, end: said.end };
-    if (typeof said?.event !== "string") return { count: at, end: null };
-    noteEvent(run, laneOf, at, said);
-  }
-  return { count: run.lines.length - 1, end: null };
+/** Makes room for so many events: columns keep what they have. */
+function widen(run, count) {
+  if (count <= run.columns.free.length) return;
+  const wider = newColumns(Math.max(count, 2 * run.columns.free.length));
+  for (const [name, list] of Object.entries(wider)) list.set(run.columns[name]);
+  run.columns = wider;
 }
 
-const cutTo = (columns, count) => Object.fromEntries(Object.entries(columns).map(([name, list]) => [name, list.subarray(0, count)]));
+/** Reads the lines up to the object of the end, or up to the first that is no event's. */
+function readEvents(run, lines) {
+  const laneOf = (task) => run.laneOf.get(task) ?? run.laneOf.set(task, newLane(task)).get(task);
+  for (const line of lines) {
+    const said = parsed(line);
+    if (said?.end) run.end = said.end;
+    if (typeof said?.event !== "string") return;
+    noteEvent(run, laneOf, run.count, said);
+    run.lines.push(line);
+    run.count++;
+  }
+}
+
+/** Forgets what came behind so many events. */
+function cutRun(run, count) {
+  run.lines.length = run.count = count;
+  run.end = null;
+  for (const lane of run.laneOf.values()) {
+    cutLane(lane, count);
+    if (isEmptyLane(lane)) run.laneOf.delete(lane.task);
+  }
+}
+
+/** Reads lines of events that come behind so many events, in place of what came there. */
+function extendRun(run, count, lines) {
+  cutRun(run, count);
+  widen(run, count + lines.length);
+  readEvents(run, lines);
+  for (const lane of run.laneOf.values()) endLane(lane, run.count);
+  run.lanes = [...run.laneOf.values()].sort((one, other) => one.task - other.task);
+  for (const [name, series] of Object.entries(run.counts)) followSeries(series, run.columns[name], count, run.count);
+}
 
 /** The run that the lines tell of, or null where they tell of none. Where they end too soon, the run has no `end`. */
 function readRun(text) {
-  const lines = text.split("\n").filter((line) => line !== "");
-  const pool = parsed(lines[0] ?? "")?.pool;
+  const [first, ...lines] = text.split("\n").filter((line) => line !== "");
+  const pool = parsed(first ?? "")?.pool;
   if (!pool) return null;
-  const lanes = new Map();
-  const laneOf = (task) => lanes.get(task) ?? lanes.set(task, newLane(task)).get(task);
-  const run = { pool, lines, columns: newColumns(lines.length), dictionary: newDictionary(), functions: new Map() };
-  Object.assign(run, readEvents(run, laneOf));
-  for (const lane of lanes.values()) endLane(lane, run.count);
-  run.columns = cutTo(run.columns, run.count);
-  run.laneOf = lanes;
-  run.lanes = [...lanes.values()].sort((one, other) => one.task - other.task);
-  run.counts = Object.fromEntries(["free", "resv", "bare", "used"].map((name) => [name, seriesOf(run.columns[name])]));
+  const columns = newColumns(lines.length);
+  const counts = Object.fromEntries(["free", "resv", "bare", "used"].map((name) => [name, seriesOf(columns[name], 0)]));
+  const run = { pool, lines: [], count: 0, end: null, columns, dictionary: newDictionary(), functions: new Map(), laneOf: new Map(), lanes: [], counts };
+  extendRun(run, 0, lines);
   return run;
 }
-
-// ---- asking
-
-const lineOf = (at) => at + 2;
-const eventAt = (run, at) => parsed(run.lines[at + 1]);
-const laneOfEvent = (run, at) => run.laneOf.get(run.columns.lane[at]);
-
-/** The call of a lane that is in flight behind an event: its place in the list of calls, or -1. */
-function callAt(lane, at) {
-  const place = lastUpTo(lane.calls.since, at);
-  return place >= 0 && at < lane.calls.until[place] ? place : -1;
-}
-
-/** Where the call of a lane stands behind an event, as the task's last event says; null where none is in flight. */
-function standingAt(run, lane, at) {
-  const place = callAt(lane, at);
-  if (place < 0) return null;
-  const begun = lane.calls.since[place];
-  const last = eventAt(run, lane.events[lastUpTo(lane.events, at)]);
-  return { task: lane.task, begun, call: eventAt(run, begun), phase: last.at, holds: last.holds ?? {}, wants: last.wants ?? {}, owes: last.owes ?? 0 };
-}
-
-/** The function of Linux that does what the next step of a call does, or nothing where the run doesn't say. */
-function functionOf(run, operation, phase) {
-  const both = `${operation} ${phase}`;
-  return run.functions.get(both) ?? OUTER_FUNCTIONS[both] ?? OUTER_FUNCTIONS[phase] ?? "";
-}
-
-/** For whom a lane's task waits behind an event, since when and for what; null where it doesn't. */
-function waitAt(run, lane, at) {
-  const place = lastUpTo(lane.waits.since, at);
-  if (place < 0 || at >= lane.waits.until[place]) return null;
-  const since = lane.waits.since[place];
-  const wanted = eventAt(run, since).waits.find((wait) => wait.task === lane.task);
-  return { task: lane.task, holder: lane.waits.holder[place], since, wanted };
-}
-
-/** How a lane's task lives behind an event. */
-function lifeAt(lane, at) {
-  const { since, until, operation, isOver } = lane.calls;
-  const place = lastUpTo(since, at);
-  if (place >= 0 && operation[place] === "exit" && isOver[place] && until[place] <= at) return "dead";
-  return countBelow(lane.marks.killed, at + 1) > 0 ? "killed" : "alive";
-}
-
-// ---- words
-
-const slotWords = ({ slot, file, index }) => `slot ${slot}, file ${file} index ${index}`;
-
-/** What is held or wanted, in words. */
-function thingWords(things) {
-  const parts = [];
-  if (things.lock !== undefined) parts.push(`lock of file ${things.lock}`);
-  if (things.slot !== undefined) parts.push(slotWords(things));
-  return parts.join(" and ") || "nothing";
-}
-
-const callWords = (event) => [event.op, ...event.numbers].join(" ");
-
-/** An event, as the line of a trace. */
-function eventWords(event) {
-  const words = event.event === "resize" ? [event.frames] : [event.task];
-  if (event.event === "begin") words.push(callWords(event));
-  return [event.event, ...words].join(" ");
-}
-
-/** What came of an event, as `explain` prints it. */
-function outcomeWords(event) {
-  switch (event.outcome) {
-    case "moved": return `moved ${event.phase}${event.index === undefined ? "" : `, index ${event.index}`}`;
-    case "ended": return event.number === undefined ? `ended ${event.answer}` : `ended ${event.answer} ${event.number}`;
-    case "blocked": return `blocked by ${event.by}: ${thingWords(event.wants ?? {})}`;
-    case "refused": return `refused ${event.reason}`;
-    case "resized": return event.number === undefined ? "resized" : `resized ${event.number}`;
-    default: return event.outcome;
-  }
-}
-
-const waitWords = ({ task, holder, wanted }) => `task ${task} waits for ${holder}: ${thingWords(wanted)}`;

@@ -10,9 +10,9 @@ pub(crate) const FRONT: &str = r###"<!doctype html>
   content="default-src 'none'; style-src 'unsafe-inline'; script-src 'unsafe-inline'; base-uri 'none'; form-action 'none'">
 <title>Kirvessa: a run</title>
 <style>
+/* The picture of a run and its legend, as both pages have them; each page has its own ink, paper and accent. */
 :root {
-  color-scheme: light dark;
-  --ink: #222; --soft: #666; --ground: #fff; --lane: #f3f3f5; --grid: #dcdce2; --accent: #1257b0; --on-accent: #fff; --alarm: #b00020; --alarm-ground: #fdeef0;
+  --lane: #f3f3f5; --grid: #dcdce2;
   --map: #a9cdee; --mapn: #93d8cd; --unmap: #cdbfec; --load: #c0e2a8; --store: #f7d778; --alloc: #f6b78c; --allock: #f6b78c; --punch: #f5adbc;
   --trunc: #dfb0df; --exit: #ccc;
   --wait: #b00020; --blocked: #b00020; --refused: #777; --denied: #e07000; --killed: #d00000; --failed: #b00020; --resized: #0a7a5a;
@@ -20,19 +20,61 @@ pub(crate) const FRONT: &str = r###"<!doctype html>
 }
 @media (prefers-color-scheme: dark) {
   :root {
-    --ink: #e6e6ea; --soft: #9a9aa5; --ground: #16161a; --lane: #202027; --grid: #34343d; --accent: #6aa9ff; --on-accent: #10151d; --alarm: #ff6b7d;
-    --alarm-ground: #3a1a20;
+    --lane: #202027; --grid: #34343d;
     --map: #2b5f92; --mapn: #1d7167; --unmap: #5d4b9c; --load: #417a2e; --store: #7f6506; --alloc: #93501d; --allock: #93501d; --punch: #93374e;
     --trunc: #80407f; --exit: #5c5c62;
     --wait: #ff6b7d; --blocked: #ff6b7d; --refused: #9a9aa5; --denied: #ff9a3c; --killed: #ff5050; --failed: #ff6b7d; --resized: #3fd0a0;
     --free: #5ec878; --resv: #6aa9ff; --bare: #ff9a4d; --used: #d9b93b; --owed: #b980e659; --sum: #cfa3f2;
   }
 }
-* { box-sizing: border-box; }
 [hidden] { display: none !important; }
+
+/* the picture */
+#picture { overflow: auto; touch-action: pan-x pan-y; overscroll-behavior: contain; position: relative; }
+#picture:focus-visible { outline-offset: -2px; }
+#extent { position: relative; }
+#canvas { position: sticky; left: 0; top: 0; display: block; }
+
+/* the legend */
+#legend { list-style: none; display: flex; flex-wrap: wrap; gap: 1px 14px; margin: 0; padding: 0; font-size: 12px; color: var(--soft); }
+#legend li { display: flex; gap: 5px; align-items: center; }
+#legend li span:not(.swatch) { margin-left: -5px; }
+#legend:not(.is-long) .more { display: none; }
+#legend svg { flex: none; fill: none; overflow: hidden; }
+.swatch { width: 14px; height: 12px; flex: none; background: var(--exit); }
+.swatch.map { background: var(--map); }
+.swatch.mapn { background: var(--mapn); }
+.swatch.unmap { background: var(--unmap); }
+.swatch.load { background: var(--load); }
+.swatch.store { background: var(--store); }
+.swatch.alloc { background: var(--alloc); }
+.swatch.punch { background: var(--punch); }
+.swatch.trunc { background: var(--trunc); }
+.swatch.owed { background: var(--owed); }
+#legend .held, #legend .hatch { stroke: var(--wait); }
+#legend .blocked { stroke: var(--blocked); stroke-width: 3; }
+#legend .failed { fill: var(--failed); }
+#legend .denied { fill: var(--denied); }
+#legend .killed { stroke: var(--killed); stroke-width: 2; }
+#legend .refused { stroke: var(--refused); stroke-width: 2; }
+#legend .resized { stroke: var(--resized); stroke-width: 1.5; stroke-dasharray: 3 2; }
+#legend .free { stroke: var(--free); stroke-width: 1.5; }
+#legend .resv { stroke: var(--resv); stroke-width: 2.5; }
+#legend .bare { stroke: var(--bare); stroke-width: 1.5; stroke-dasharray: 4 3; }
+#legend .used { stroke: var(--used); stroke-width: 1.5; }
+kbd { font: 12px ui-monospace, Menlo, Consolas, monospace; border: 1px solid var(--grid); border-radius: 4px; padding: 0 5px; background: var(--lane); }
+/* The page around a picture. */
+:root {
+  color-scheme: light dark;
+  --ink: #222; --soft: #666; --paper: #fff; --accent: #1257b0; --on-accent: #fff; --alarm: #b00020; --alarm-ground: #fdeef0;
+}
+@media (prefers-color-scheme: dark) {
+  :root { --ink: #e6e6ea; --soft: #9a9aa5; --paper: #16161a; --accent: #6aa9ff; --on-accent: #10151d; --alarm: #ff6b7d; --alarm-ground: #3a1a20; }
+}
+* { box-sizing: border-box; }
 html { height: 100%; }
 body {
-  margin: 0; height: 100vh; height: 100dvh; display: flex; flex-direction: column; color: var(--ink); background: var(--ground);
+  margin: 0; height: 100vh; height: 100dvh; display: flex; flex-direction: column; color: var(--ink); background: var(--paper);
   font: 14px/1.45 system-ui, sans-serif;
 }
 h1 { font-size: 16px; margin: 0; }
@@ -50,19 +92,17 @@ header p { margin: 0; color: var(--soft); }
 button, input { font: inherit; font-size: 13px; color: inherit; background: var(--lane); border: 1px solid var(--grid); border-radius: 5px; padding: 2px 9px; }
 button { cursor: pointer; white-space: nowrap; }
 button:hover { border-color: var(--accent); }
-input { background: var(--ground); }
+input { background: var(--paper); }
 label { font-size: 13px; color: var(--soft); }
 #line { width: 92px; }
 #query { width: 190px; }
 #found { font-size: 13px; color: var(--soft); min-width: 9ch; }
 :focus-visible { outline: 2px solid var(--accent); outline-offset: 1px; }
 
+body > #legend { padding: 5px 14px; border-bottom: 1px solid var(--grid); }
+
 /* the picture, and what stands beside it */
 main { flex: 1; min-height: 0; display: grid; grid-template-columns: minmax(0, 1fr) 390px; }
-#picture { overflow: auto; touch-action: pan-x pan-y; overscroll-behavior: contain; position: relative; }
-#picture:focus-visible { outline-offset: -2px; }
-#extent { position: relative; }
-#canvas { position: sticky; left: 0; top: 0; display: block; }
 aside { overflow: auto; padding: 12px 14px 24px; border-left: 1px solid var(--grid); }
 #row { overflow-wrap: anywhere; }
 #done { overflow-wrap: anywhere; color: var(--soft); }
@@ -70,7 +110,10 @@ aside { overflow: auto; padding: 12px 14px 24px; border-left: 1px solid var(--gr
 #counts div { display: flex; flex-direction: column-reverse; }
 #counts dt { font-size: 12px; color: var(--soft); }
 #counts dd { margin: 0; font-size: 18px; font-variant-numeric: tabular-nums; }
-#waits { list-style: none; margin: 0; padding: 0; font-size: 13px; }
+#waits { list-style: none; margin: 0; padding: 0; font-size: 13px; max-height: 10em; overflow: auto; }
+#waits ul { list-style: none; margin: 0; padding: 0 0 0 14px; }
+#waits details { margin: 0; }
+#waits summary { color: inherit; }
 #waits li { color: var(--wait); padding: 1px 0; }
 #waits li.none { color: var(--soft); }
 .call { border-left: 4px solid var(--grid); padding: 1px 0 1px 8px; margin: 0 0 8px; }
@@ -92,32 +135,6 @@ summary { cursor: pointer; color: var(--accent); }
 /* help */
 #help { padding: 12px 14px; border-bottom: 1px solid var(--grid); max-height: 60vh; overflow: auto; flex: none; }
 #help p, #help .keys { max-width: 110ch; margin-bottom: 10px; }
-.legend { list-style: none; display: flex; flex-wrap: wrap; gap: 4px 18px; margin: 0 0 10px; padding: 0; font-size: 13px; }
-.legend li { display: flex; gap: 6px; align-items: center; }
-.legend svg { flex: none; fill: none; overflow: hidden; }
-.swatch { width: 14px; height: 12px; flex: none; background: var(--exit); }
-.swatch.map { background: var(--map); }
-.swatch.mapn { background: var(--mapn); }
-.swatch.unmap { background: var(--unmap); }
-.swatch.load { background: var(--load); }
-.swatch.store { background: var(--store); }
-.swatch.alloc { background: var(--alloc); }
-.swatch.punch { background: var(--punch); }
-.swatch.trunc { background: var(--trunc); }
-.swatch.owed { background: var(--owed); }
-svg .held, svg .hatch { stroke: var(--wait); }
-svg .blocked { stroke: var(--blocked); stroke-width: 3; }
-svg .failed { fill: var(--failed); }
-svg .denied { fill: var(--denied); }
-svg .killed { stroke: var(--killed); stroke-width: 2; }
-svg .refused { stroke: var(--refused); stroke-width: 2; }
-svg .resized { stroke: var(--resized); stroke-width: 1.5; stroke-dasharray: 3 2; }
-svg .free { stroke: var(--free); stroke-width: 1.5; }
-svg .resv { stroke: var(--resv); stroke-width: 2.5; }
-svg .bare { stroke: var(--bare); stroke-width: 1.5; stroke-dasharray: 4 3; }
-svg .used { stroke: var(--used); stroke-width: 1.5; }
-kbd { font: 12px ui-monospace, Menlo, Consolas, monospace; border: 1px solid var(--grid); border-radius: 4px; padding: 0 5px; background: var(--lane); }
-
 @media (max-width: 900px) {
   body { height: auto; min-height: 100%; }
   main { display: block; }
@@ -158,39 +175,43 @@ kbd { font: 12px ui-monospace, Menlo, Consolas, monospace; border: 1px solid var
     <span id="found" role="status"></span>
   </form>
 </div>
-<section id="help" aria-labelledby="help-title" hidden>
+<ul id="legend" aria-label="Legend of the picture">
+  <li><span class="swatch map"></span>map</li>
+  <li><span class="swatch mapn"></span>mapn</li>
+  <li><span class="swatch unmap"></span>unmap</li>
+  <li><span class="swatch load"></span>load</li>
+  <li><span class="swatch store"></span>store</li>
+  <li><span class="swatch alloc"></span>alloc, allock</li>
+  <li><span class="swatch punch"></span>punch</li>
+  <li><span class="swatch trunc"></span>trunc</li>
+  <li><span class="swatch exit"></span>exit</li>
+  <li><svg width="18" height="12" aria-hidden="true">
+    <rect class="held" x=".5" y=".5" width="17" height="11"/><path class="hatch" d="M0 8l8-8M4 12l12-12M12 12l6-6"/></svg>waits<span
+    class="more">; the line leads to the holder</span></li>
+  <li><svg width="12" height="12" aria-hidden="true"><path class="blocked" d="M2 6h8"/></svg>blocked<span class="more">: the step did
+    nothing</span></li>
+  <li><svg width="12" height="12" aria-hidden="true"><path class="failed" d="M6 1l5 5l-5 5l-5-5z"/></svg>failed<span class="more">: the call
+    ended with any answer but mapped, word and done</span></li>
+  <li><svg width="12" height="12" aria-hidden="true"><path class="denied" d="M1 2h10l-5 9z"/></svg>deny<span class="more">: if the step
+    wanted memory, that allocation failed</span></li>
+  <li><svg width="12" height="12" aria-hidden="true"><path class="killed" d="M2 2l8 8m0-8l-8 8"/></svg>killed</li>
+  <li><svg width="12" height="12" aria-hidden="true"><circle class="refused" cx="6" cy="6" r="4"/></svg>refused<span class="more">: nothing
+    changed</span></li>
+  <li><svg width="12" height="12" aria-hidden="true"><path class="resized" d="M6 0v12"/></svg>resized<span class="more">: the pool has another
+    number of frames</span></li>
+  <li><svg width="18" height="12" aria-hidden="true"><path class="free" d="M0 6h18"/></svg>free<span class="more"> frames</span></li>
+  <li><svg width="18" height="12" aria-hidden="true"><path class="resv" d="M0 6h18"/></svg>resv<span class="more">, the reserve count</span></li>
+  <li><svg width="18" height="12" aria-hidden="true"><path class="bare" d="M0 6h18"/></svg>no page<span class="more">: indices that are
+    reserved and have no page</span></li>
+  <li><span class="swatch owed"></span>owed<span class="more"> by calls in flight: resv less no page</span></li>
+  <li id="used-key"><svg width="18" height="12" aria-hidden="true"><path class="used" d="M0 6h18"/></svg>used<span class="more"> pages of a quota, which is
+    the dotted line, unless it is more than four times what the curves show</span></li>
+</ul>
+<section id="help" class="own-keys" aria-labelledby="help-title" hidden>
   <h2 id="help-title">The picture</h2>
   <p>Time runs to the right, an event of the trace a step; the numbers at the top are those of the trace's lines. Each task that the trace
     mentions has a lane. The lane <i>pool</i> is for events of no task: a resize, and events of tasks that aren't there. Below are the counts
-    behind each event.</p>
-  <ul class="legend">
-    <li><span class="swatch map"></span>map</li>
-    <li><span class="swatch mapn"></span>mapn</li>
-    <li><span class="swatch unmap"></span>unmap</li>
-    <li><span class="swatch load"></span>load</li>
-    <li><span class="swatch store"></span>store</li>
-    <li><span class="swatch alloc"></span>alloc, allock</li>
-    <li><span class="swatch punch"></span>punch</li>
-    <li><span class="swatch trunc"></span>trunc</li>
-    <li><span class="swatch exit"></span>exit</li>
-    <li><svg width="18" height="12" aria-hidden="true">
-      <rect class="held" x=".5" y=".5" width="17" height="11"/><path class="hatch" d="M0 8l8-8M4 12l12-12M12 12l6-6"/></svg>waits; the line leads to the
-      holder</li>
-    <li><svg width="12" height="12" aria-hidden="true"><path class="blocked" d="M2 6h8"/></svg>a step that was blocked</li>
-    <li><svg width="12" height="12" aria-hidden="true"><path class="failed" d="M6 1l5 5l-5 5l-5-5z"/></svg>a call failed: any answer but mapped,
-      word and done</li>
-    <li><svg width="12" height="12" aria-hidden="true"><path class="denied" d="M1 2h10l-5 9z"/></svg>a deny: if the step wanted memory, that
-      allocation failed</li>
-    <li><svg width="12" height="12" aria-hidden="true"><path class="killed" d="M2 2l8 8m0-8l-8 8"/></svg>killed</li>
-    <li><svg width="12" height="12" aria-hidden="true"><circle class="refused" cx="6" cy="6" r="4"/></svg>refused, and nothing changed</li>
-    <li><svg width="12" height="12" aria-hidden="true"><path class="resized" d="M6 0v12"/></svg>the pool was resized</li>
-    <li><svg width="18" height="12" aria-hidden="true"><path class="free" d="M0 6h18"/></svg>free frames</li>
-    <li><svg width="18" height="12" aria-hidden="true"><path class="resv" d="M0 6h18"/></svg>resv, the reserve count</li>
-    <li><svg width="18" height="12" aria-hidden="true"><path class="bare" d="M0 6h18"/></svg>indices that are reserved and have no page</li>
-    <li><span class="swatch owed"></span>what calls in flight owe: resv less those</li>
-    <li><svg width="18" height="12" aria-hidden="true"><path class="used" d="M0 6h18"/></svg>used pages; dotted: the quota, unless it is more than
-      four times what the curves show</li>
-  </ul>
+    behind each event. The legend above says what colours, marks and curves are.</p>
   <p>A box is a call in a phase, in the colour of the call. Where several boxes share a pixel it has the colour of the last one, and the
     hatch stands where waits take at least half of it. Where marks have no room for their shapes, a tick is as high as their share of the
     lane's events in its pixel. Where events share pixels, a curve is a band from its least to its greatest value there, and what is owed
@@ -204,7 +225,7 @@ kbd { font: 12px ui-monospace, Menlo, Consolas, monospace; border: 1px solid var
     <dt><kbd>+</kbd> <kbd>-</kbd> <kbd>0</kbd></dt><dd>zoom in, out, to the whole run; also Ctrl with the wheel, or two fingers</dd>
     <dt><kbd>/</kbd></dt><dd>to the search field</dd>
     <dt><kbd>n</kbd> <kbd>p</kbd></dt><dd>the next match, the match before</dd>
-    <dt><kbd>Esc</kbd></dt><dd>from a field back to the picture</dd>
+    <dt><kbd>Esc</kbd></dt><dd>closes this help; from a field back to the picture</dd>
     <dt><kbd>?</kbd></dt><dd>this help</dd>
   </dl>
   <h2>Search</h2>
@@ -219,7 +240,7 @@ kbd { font: 12px ui-monospace, Menlo, Consolas, monospace; border: 1px solid var
   <div id="picture" tabindex="0" role="application" aria-label="The run, drawn: arrow keys pick an event, which is described beside" aria-describedby="row">
     <div id="extent"><canvas id="canvas" aria-hidden="true"></canvas></div>
   </div>
-  <aside aria-label="The picked event">
+  <aside class="own-keys" aria-label="The picked event">
     <h2 id="row" aria-live="polite"></h2>
     <p id="done"></p>
     <dl id="counts"></dl>

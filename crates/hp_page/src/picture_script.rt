@@ -1,66 +1,8 @@
-//! Of a page, the functions that search a run, and those that draw it. `gate/page.py` makes it of the files in `page/`.
+//! Of a page, the functions that draw a run. `gate/page.py` makes it of the files in `page/`.
 
-/// Of a page, the functions that search a run, and those that draw it.
+/// Of a page, the functions that draw a run.
 pub(crate) const PICTURE_SCRIPT: &str =
-    r###"// Searching the events of a run by the words of their rows. Nothing here touches the page.
-
-// words behind which a number stands
-const NUMBERED = new Set(["task", "file", "index", "line"]);
-
-/** The parts of a query: `{ word }`, `{ name, number }` and `{ of }`; null where a number or a word is missing. */
-function readQuery(text) {
-  const words = text.toLowerCase().split(/[\s,:]+/).filter((word) => word !== "");
-  const parts = [];
-  for (let place = 0; place < words.length; place++) {
-    const word = words[place];
-    const takesNext = NUMBERED.has(word) || word === "of";
-    const next = takesNext ? words[++place] : undefined;
-    if (word === "of" ? next === undefined : takesNext && !/^\d+$/.test(next ?? "")) return null;
-    if (/^\d+$/.test(word)) parts.push({ name: "line", number: Number(word) });
-    else if (word === "of") parts.push({ of: next });
-    else parts.push(takesNext ? { name: word, number: Number(next) } : { word });
-  }
-  return parts;
-}
-
-/** Whether the word stands in the row of an event, as a function of the event. */
-function wordTest(run, word) {
-  const { event, operation, outcome, word: last, linux, waits } = run.columns;
-  if (word === "waits") return (at) => waits[at] === 1;
-  const code = run.dictionary.codes.get(word);
-  if (code === undefined) return () => false;
-  return (at) => [event, operation, outcome, last, linux].some((column) => column[at] === code);
-}
-
-function partTest(run, part) {
-  if (part.word !== undefined) return wordTest(run, part.word);
-  if (part.of !== undefined) {
-    const code = run.dictionary.codes.get(part.of);
-    return (at) => code !== undefined && run.columns.call[at] === code;
-  }
-  if (part.name === "line") return (at) => lineOf(at) === part.number;
-  const numbers = run.columns[part.name];
-  return (at) => numbers[at] === part.number;
-}
-
-/** The events in whose rows all that the query asks for stands, in order; none of an empty query, null where it can't be read. */
-function findEvents(run, text) {
-  const parts = readQuery(text);
-  if (!parts) return null;
-  if (parts.length === 0) return [];
-  const tests = parts.map((part) => partTest(run, part));
-  const found = [];
-  for (let at = 0; at < run.count; at++) if (tests.every((test) => test(at))) found.push(at);
-  return found;
-}
-
-/** The match behind an event, or before it, and from the last on to the first again; -1 where there is none. */
-function nextMatch(found, at, isForward) {
-  if (found.length === 0) return -1;
-  if (isForward) return found[countBelow(found, at + 1) % found.length];
-  return found[(countBelow(found, at) + found.length - 1) % found.length];
-}
-// The picture: lanes and curves on a canvas that shows what is in sight, and no more.
+    r###"// Where things of a run stand on a canvas, and what is painted there.
 
 const RULER = 26;
 // room behind the last event
@@ -77,7 +19,7 @@ const MOST_STEP = 120;
 // browsers lay out nothing that is much wider
 const MOST_WIDTH = 16_000_000;
 const COLOURS = [
-  "ink", "soft", "ground", "lane", "grid", "accent", "on-accent", "map", "mapn", "unmap", "load", "store", "alloc", "allock", "punch", "trunc", "exit",
+  "ink", "soft", "paper", "lane", "grid", "accent", "on-accent", "map", "mapn", "unmap", "load", "store", "alloc", "allock", "punch", "trunc", "exit",
   "wait", "blocked", "refused", "denied", "killed", "failed", "resized", "free", "resv", "bare", "used", "owed", "sum",
 ];
 // how wide an event has to be for all marks to have their shape, and for curves to be lines
@@ -91,9 +33,11 @@ const TOUCH = 8;
 // ---- places
 
 function newView(scroller, extent, canvas) {
+  const context = canvas.getContext("2d", { alpha: false });
+  context.font = LETTERS;
+  const letter = context.measureText("0000000000").width / 10;
   return {
-    scroller, extent, canvas, context: canvas.getContext("2d", { alpha: false }), run: null,
-    step: 0, least: 0, left: 0, picked: 0, found: [], labels: new Map(), tiles: new Map(),
+    scroller, extent, canvas, context, letter, run: null, step: 0, least: 0, left: 0, picked: 0, found: [], labels: new Map(), tiles: new Map(),
   };
 }
 
@@ -102,12 +46,18 @@ const leastStep = (view) => Math.max(view.width - view.gutter - RIGHT, 50) / Mat
 
 const mostStep = (view) => Math.max(leastStep(view), Math.min(MOST_STEP, MOST_WIDTH / Math.max(view.run.count, 1)));
 
+/** How wide the names of lanes and of curves are, with the largest count behind these. */
+function gutterOf(view) {
+  const most = Math.max(...Object.values(view.run.counts).map((series) => series.top), view.run.pool.frames);
+  return Math.ceil(26 + view.letter * `no page ${most}`.length);
+}
+
 /** Lays the picture out for the room that it has. */
 function layOut(view) {
   const { scroller, extent, canvas, run } = view;
   view.width = scroller.clientWidth;
   view.height = scroller.clientHeight;
-  view.gutter = view.width < 600 ? 78 : 96;
+  view.gutter = gutterOf(view);
   const lanes = Math.max(run.lanes.length, 1);
   const spare = view.height - RULER - lanes * MOST_PITCH;
   view.below = Math.round(Math.min(MOST_BELOW, Math.max(spare, Math.min(230, Math.max(130, view.height * 0.4)))));
@@ -131,6 +81,9 @@ function sizeCanvas(view, canvas, scale) {
   Object.assign(canvas, { width, height });
   Object.assign(canvas.style, { width: `${view.width}px`, height: `${view.height}px` });
 }
+
+/** The next edge of the screen's own pixels, so that what is painted side by side leaves no gap. */
+const snapped = (view, x) => Math.round(x * view.scale) / view.scale;
 
 const xOf = (view, at) => view.gutter + at * view.step - view.left;
 const momentAt = (view, x) => (x - view.gutter + view.left) / view.step;
@@ -160,6 +113,7 @@ function showEvent(view, at) {
   const x = at * view.step;
   const edge = Math.min(room / 4, 60);
   if (x < scroller.scrollLeft + edge || x + view.step > scroller.scrollLeft + room - edge) scroller.scrollLeft = x + view.step / 2 - room / 2;
+  if (at < 0) return;
   const row = view.run.lanes.indexOf(laneOfEvent(view.run, at));
   const seen = view.curvesTop - RULER;
   if (row * view.pitch < scroller.scrollTop || (row + 1) * view.pitch > scroller.scrollTop + seen) scroller.scrollTop = (row + 0.5) * view.pitch - seen / 2;
@@ -222,6 +176,7 @@ function line(view, colour, width, fromX, fromY, toX, toY, dashes) {
   view.context.lineTo(toX, toY);
   stroke(view, colour, width, dashes);
 }
+// The lanes of a picture: boxes of calls, waits and their holders, and words, as tiles where events share pixels.
 
 // ---- tiles, where events share pixels
 
@@ -244,13 +199,15 @@ function drawTiles(view, name, top, height, paint) {
     const key = `${name} ${place}`;
     if (!view.tiles.has(key)) view.tiles.set(key, newTile(view, place, height, paint));
     const tile = view.tiles.get(key);
-    view.context.drawImage(tile, view.gutter + place * TILE - view.left, top, TILE, tile.height / view.scale);
+    const left = snapped(view, view.gutter + place * TILE - view.left);
+    const right = snapped(view, view.gutter + (place + 1) * TILE - view.left);
+    view.context.drawImage(tile, left, snapped(view, top), right - left, tile.height / view.scale);
   }
 }
 
 /** Forgets tiles where they are out of date, or many. */
 function keepTiles(view) {
-  const key = [view.step, view.pitch, view.below, view.scale, view.colours.ground].join();
+  const key = [view.step, view.pitch, view.below, view.scale, view.colours.paper].join();
   if (key !== view.tilesOf || view.tiles.size > MOST_TILES) view.tiles.clear();
   view.tilesOf = key;
 }
@@ -374,7 +331,7 @@ function writeWait(view, lane, place, left, right, top) {
   const words = labelOf(view, `wait ${lane.task} ${place}`, () => waitLabel(view, lane, place)).find((it) => it.length <= room);
   if (!words) return;
   const y = top + view.tall - 14;
-  box(view, view.colours.ground, from + 9, y - 1, words.length * view.letter + 4, 13);
+  box(view, view.colours.paper, from + 9, y - 1, words.length * view.letter + 4, 13);
   write(view, words, from + 11, y + 9, view.colours.wait);
 }
 
@@ -444,8 +401,7 @@ function drawLanes(view) {
   if (view.step >= CURVED) view.run.lanes.forEach((lane, row) => drawWaits(view, lane, topOf(view, row)));
   eachLane(view, (lane, top) => writeLane(view, lane, top));
 }
-
-// ---- marks
+// The marks of a picture, in its lanes and down all of it.
 
 /** Adds the lines between corners, which are given as pairs, round a place. */
 function addLines(path, x, y, corners, isClosed) {
@@ -468,7 +424,7 @@ function drawShapes(view, lane, kind, first, last, y) {
   if (!FILLED.has(kind)) return stroke(view, view.colours[kind], kind === "blocked" ? 3 : 2, [], path);
   view.context.fillStyle = view.colours[kind];
   view.context.fill(path);
-  return stroke(view, view.colours.ground, 1, [], path);
+  return stroke(view, view.colours.paper, 1, [], path);
 }
 
 /** Where marks are too many for their shapes: a tick in each pixel, as high as is their share of the lane's events there. */
@@ -511,7 +467,7 @@ function drawResizes(view) {
     line(view, view.colours.resized, view.step < CURVED ? 0.7 : 1.5, x, RULER, x, view.height, [5, 3]);
     if (x - previous >= 36) {
       const frames = labelOf(view, `resize ${marks[place]}`, () => frameWords(eventAt(view.run, marks[place])));
-      box(view, view.colours.ground, x + 2, RULER + 1, frames.length * view.letter + 4, 13);
+      box(view, view.colours.paper, x + 2, RULER + 1, frames.length * view.letter + 4, 13);
       write(view, frames, x + 4, RULER + 11, view.colours.resized);
     }
     previous = x;
@@ -519,8 +475,7 @@ function drawResizes(view) {
 }
 
 const frameWords = (event) => `${event.number ?? event.frames}`;
-
-// ---- curves
+// The curves of a picture: the pool's counts behind each event.
 
 const PANELS = [
   { curves: ["free", "resv", "used"], widths: [1.5, 2.5, 1.5] },
@@ -541,6 +496,7 @@ const levelOf = (panel, count) => panel.base - (count * panel.height) / panel.mo
 
 function drawLine(view, panel, { values }, colour, width, dashes) {
   const { context, sight } = view;
+  if (sight.from >= sight.to) return;
   context.beginPath();
   context.moveTo(xOf(view, sight.from), levelOf(panel, values[sight.from]));
   for (let at = sight.from; at < sight.to; at++) {
@@ -554,8 +510,9 @@ function drawLine(view, panel, { values }, colour, width, dashes) {
 /** Where events share pixels: from the least to the greatest value in each. Pixels with the same are painted at once. */
 function drawBand(view, panel, series, colour) {
   const end = Math.min(view.width, xOf(view, view.run.count));
-  let open = { x: 0, least: 0, greatest: 0 };
+  let open = null;
   const close = (x) => {
+    if (!open) return;
     const [top, foot] = [levelOf(panel, open.greatest) - 0.75, levelOf(panel, open.least) + 0.75];
     box(view, colour, open.x, top, x - open.x, foot - top);
   };
@@ -566,11 +523,11 @@ function drawBand(view, panel, series, colour) {
     if (from >= to) continue;
     // (a step up or down leads from the value before)
     const [least, greatest] = rangeOf(series, Math.max(from - 1, 0), to);
-    if (open.x > 0 && least === open.least && greatest === open.greatest) continue;
-    if (open.x > 0) close(x);
+    if (open && least === open.least && greatest === open.greatest) continue;
+    close(x);
     open = { x, least, greatest };
   }
-  if (open.x > 0) close(Math.ceil(end));
+  close(Math.ceil(end));
   view.context.globalAlpha = 1;
 }
 
@@ -600,7 +557,7 @@ function drawQuota(view, panel) {
   const y = Math.round(levelOf(panel, quota)) + 0.5;
   line(view, view.colours.used, 1.5, view.gutter, y, Math.min(view.width, xOf(view, view.run.count)), y, [2, 3]);
   const words = `quota ${quota}`;
-  box(view, view.colours.ground, view.gutter + 6, y + 2, words.length * view.letter + 4, 12);
+  box(view, view.colours.paper, view.gutter + 6, y + 2, words.length * view.letter + 4, 12);
   write(view, words, view.gutter + 8, y + 12, view.colours.used);
 }
 
@@ -626,14 +583,13 @@ function drawPanel(view, panel) {
 }
 
 function drawCurves(view) {
-  box(view, view.colours.ground, 0, view.curvesTop, view.width, view.below);
+  box(view, view.colours.paper, 0, view.curvesTop, view.width, view.below);
   line(view, view.colours.grid, 1, 0, view.curvesTop + 0.5, view.width, view.curvesTop + 0.5);
   view.panels = panelsOf(view);
   view.panels.forEach((panel) => drawLevels(view, panel));
   clipped(view, view.gutter, view.curvesTop, view.width, view.below, () => view.panels.forEach((panel) => drawPanel(view, panel)));
 }
-
-// ---- round the picture
+// The picture: what is in sight of a run, on a canvas, and no more.
 
 function clipped(view, left, top, width, height, paint) {
   const { context } = view;
@@ -663,7 +619,7 @@ function drawGrid(view) {
 
 function drawRuler(view) {
   const { colours, sight } = view;
-  box(view, colours.ground, 0, 0, view.width, RULER);
+  box(view, colours.paper, 0, 0, view.width, RULER);
   const tick = tickOf(view);
   for (let number = Math.ceil(lineOf(sight.from) / tick) * tick; number - 2 < sight.to; number += tick) {
     const x = xOf(view, number - 2) + Math.max(view.step / 2, 1);
@@ -702,7 +658,7 @@ function drawPicked(view) {
 
 function drawNames(view) {
   const { colours, context } = view;
-  box(view, colours.ground, 0, RULER, view.gutter, view.curvesTop - RULER);
+  box(view, colours.paper, 0, RULER, view.gutter, view.curvesTop - RULER);
   view.run.lanes.forEach((lane, row) => {
     const y = topOf(view, row) + view.tall / 2;
     if (y < RULER - 20 || y > view.curvesTop + 20) return;
@@ -715,11 +671,9 @@ function drawNames(view) {
 /** The names of the curves, with the counts behind the picked event. */
 function drawLegend(view) {
   const { colours, run } = view;
-  const at = view.picked;
-  const behind = (name) => (run.count > 0 ? run.columns[name][at] : 0);
+  const behind = countsAt(run, view.picked);
   const entries = [["free", "free"], ["resv", "resv"], ...(run.pool.quota === undefined ? [] : [["used", "used"]])];
-  const isNarrow = view.gutter < 90;
-  const lower = [["resv", "resv"], ["bare", isNarrow ? "bare" : "no page"], ["owed", "owed"]];
+  const lower = [["resv", "resv"], ["bare", "no page"], ["owed", "owed"]];
   [entries, lower].forEach((list, place) => {
     const panel = view.panels[place];
     const pitch = Math.min(14, panel.height / 3);
@@ -727,7 +681,7 @@ function drawLegend(view) {
     list.forEach(([name, words], row) => {
       const y = from + row * pitch;
       box(view, colours[name], 6, y - (name === "owed" ? 7 : 5), 10, name === "owed" ? 8 : name === "resv" ? 3 : 2);
-      write(view, `${words} ${behind(name)}`, 20, y, colours.ink);
+      write(view, `${words} ${behind[name]}`, 20, y, colours.ink);
     });
   });
 }
@@ -739,10 +693,9 @@ function drawPicture(view) {
   view.left = view.scroller.scrollLeft;
   context.setTransform(view.scale, 0, 0, view.scale, 0, 0);
   context.font = LETTERS;
-  view.letter ??= context.measureText("0000000000").width / 10;
   view.sight = sightOf(view, 0);
   keepTiles(view);
-  box(view, view.colours.ground, 0, 0, view.width, view.height);
+  box(view, view.colours.paper, 0, 0, view.width, view.height);
   clipped(view, view.gutter, RULER, view.width, view.curvesTop - RULER, () => {
     drawGrid(view);
     drawLanes(view);

@@ -1,16 +1,11 @@
-//! Of a page, the functions that read a run. `gate/page.py` makes it of the files in `page/`.
+//! Of a page, the functions that read a run, and search it. `gate/page.py` makes it of the files in `page/`.
 
-/// Of a page, the functions that read a run.
+/// Of a page, the functions that read a run, and search it.
 pub(crate) const RUN_SCRIPT: &str =
     r###"// The run, read from lines of JSON into arrays that answer fast what stands where. Nothing here touches the page.
 
 // answers of a call that did what it was to do; all others are failures
 const SUCCESSES = new Set(["mapped", "word", "done"]);
-// the functions of Linux by which calls begin and end, where no move of the run names them (docs/MACHINE.md, "The phases in Linux")
-const OUTER_FUNCTIONS = {
-  look: "hugetlb_fault", start: "inode_lock", "unmap start": "find_vma", "exit start": "find_vma",
-  leave: "inode_unlock", "load leave": "mutex_unlock", "store leave": "mutex_unlock", "exit leave": "do_exit",
-};
 const MARKS = ["blocked", "refused", "denied", "killed", "failed", "resized"];
 // counts are summed up in blocks of so many events
 const BLOCK = 64;
@@ -37,16 +32,23 @@ const lastUpTo = (numbers, bound) => countBelow(numbers, bound + 1) - 1;
 // ---- counts
 
 /** A count behind each event, with the least and the greatest of each block. */
-function seriesOf(values) {
-  const blocks = Math.ceil(values.length / BLOCK);
-  const series = { values, least: new Int32Array(blocks), greatest: new Int32Array(blocks), top: 0 };
-  for (let block = 0; block < blocks; block++) {
-    const part = values.subarray(block * BLOCK, (block + 1) * BLOCK);
+function seriesOf(values, count = values.length) {
+  const series = { values, least: [], greatest: [], top: 0 };
+  followSeries(series, values, 0, count);
+  return series;
+}
+
+/** Sums up the blocks from that of an event on; values before it are as they were. */
+function followSeries(series, values, from, count) {
+  series.values = values;
+  const blocks = Math.ceil(count / BLOCK);
+  series.least.length = series.greatest.length = blocks;
+  for (let block = Math.floor(from / BLOCK); block < blocks; block++) {
+    const part = values.subarray(block * BLOCK, Math.min((block + 1) * BLOCK, count));
     series.least[block] = part.reduce((one, other) => Math.min(one, other));
     series.greatest[block] = part.reduce((one, other) => Math.max(one, other));
-    series.top = Math.max(series.top, series.greatest[block]);
   }
-  return series;
+  series.top = series.greatest.reduce((one, other) => Math.max(one, other), 0);
 }
 
 /** The least and the greatest value behind the events from one to before another. */
@@ -150,6 +152,26 @@ function endLane(lane, at) {
   endCall(lane, at, false);
 }
 
+/** Ends a list's spans at an event: forgets those behind it, and returns the one that goes on there, which is taken off the list. */
+function reopenSpan(spans, at) {
+  const place = countBelow(spans.until, at);
+  const goesOn = place < spans.since.length && spans.since[place] < at;
+  const open = goesOn ? Object.fromEntries(Object.entries(spans).map(([name, list]) => [name, list[place]])) : null;
+  for (const list of Object.values(spans)) list.length = place;
+  return open;
+}
+
+/** Forgets what came behind so many events; what was in flight there is so again. */
+function cutLane(lane, at) {
+  for (const list of [lane.events, ...Object.values(lane.marks)]) list.length = countBelow(list, at);
+  const stay = reopenSpan(lane.stays, at);
+  const call = reopenSpan(lane.calls, at);
+  lane.standing = stay && { begun: call.since, since: stay.since, phase: stay.phase, operation: stay.operation };
+  lane.waiting = reopenSpan(lane.waits, at);
+}
+
+const isEmptyLane = (lane) => lane.events.length === 0 && lane.waits.since.length === 0 && !lane.waiting;
+
 // ---- words, as small numbers
 
 /** Numbers words from 1 on; 0 stands for none. */
@@ -224,40 +246,70 @@ function parsed(line) {
   }
 }
 
-/** Reads the events up to the end, or up to the first line that is none. */
-function readEvents(run, laneOf) {
-  for (let at = 0; at + 1 < run.lines.length; at++) {
-    const said = parsed(run.lines[at + 1]);
-    if (said?.end) return { count: at, end: said.end };
-    if (typeof said?.event !== "string") return { count: at, end: null };
-    noteEvent(run, laneOf, at, said);
-  }
-  return { count: run.lines.length - 1, end: null };
+/** Makes room for so many events: columns keep what they have. */
+function widen(run, count) {
+  if (count <= run.columns.free.length) return;
+  const wider = newColumns(Math.max(count, 2 * run.columns.free.length));
+  for (const [name, list] of Object.entries(wider)) list.set(run.columns[name]);
+  run.columns = wider;
 }
 
-const cutTo = (columns, count) => Object.fromEntries(Object.entries(columns).map(([name, list]) => [name, list.subarray(0, count)]));
+/** Reads the lines up to the object of the end, or up to the first that is no event's. */
+function readEvents(run, lines) {
+  const laneOf = (task) => run.laneOf.get(task) ?? run.laneOf.set(task, newLane(task)).get(task);
+  for (const line of lines) {
+    const said = parsed(line);
+    if (said?.end) run.end = said.end;
+    if (typeof said?.event !== "string") return;
+    noteEvent(run, laneOf, run.count, said);
+    run.lines.push(line);
+    run.count++;
+  }
+}
+
+/** Forgets what came behind so many events. */
+function cutRun(run, count) {
+  run.lines.length = run.count = count;
+  run.end = null;
+  for (const lane of run.laneOf.values()) {
+    cutLane(lane, count);
+    if (isEmptyLane(lane)) run.laneOf.delete(lane.task);
+  }
+}
+
+/** Reads lines of events that come behind so many events, in place of what came there. */
+function extendRun(run, count, lines) {
+  cutRun(run, count);
+  widen(run, count + lines.length);
+  readEvents(run, lines);
+  for (const lane of run.laneOf.values()) endLane(lane, run.count);
+  run.lanes = [...run.laneOf.values()].sort((one, other) => one.task - other.task);
+  for (const [name, series] of Object.entries(run.counts)) followSeries(series, run.columns[name], count, run.count);
+}
 
 /** The run that the lines tell of, or null where they tell of none. Where they end too soon, the run has no `end`. */
 function readRun(text) {
-  const lines = text.split("\n").filter((line) => line !== "");
-  const pool = parsed(lines[0] ?? "")?.pool;
+  const [first, ...lines] = text.split("\n").filter((line) => line !== "");
+  const pool = parsed(first ?? "")?.pool;
   if (!pool) return null;
-  const lanes = new Map();
-  const laneOf = (task) => lanes.get(task) ?? lanes.set(task, newLane(task)).get(task);
-  const run = { pool, lines, columns: newColumns(lines.length), dictionary: newDictionary(), functions: new Map() };
-  Object.assign(run, readEvents(run, laneOf));
-  for (const lane of lanes.values()) endLane(lane, run.count);
-  run.columns = cutTo(run.columns, run.count);
-  run.laneOf = lanes;
-  run.lanes = [...lanes.values()].sort((one, other) => one.task - other.task);
-  run.counts = Object.fromEntries(["free", "resv", "bare", "used"].map((name) => [name, seriesOf(run.columns[name])]));
+  const columns = newColumns(lines.length);
+  const counts = Object.fromEntries(["free", "resv", "bare", "used"].map((name) => [name, seriesOf(columns[name], 0)]));
+  const run = { pool, lines: [], count: 0, end: null, columns, dictionary: newDictionary(), functions: new Map(), laneOf: new Map(), lanes: [], counts };
+  extendRun(run, 0, lines);
   return run;
 }
+// What is so behind an event of a run, in numbers and in words. Nothing here touches the page.
+
+// the functions of Linux by which calls begin and end, where no move of the run names them (docs/MACHINE.md, "The phases in Linux")
+const OUTER_FUNCTIONS = {
+  look: "hugetlb_fault", start: "inode_lock", "unmap start": "find_vma", "exit start": "find_vma",
+  leave: "inode_unlock", "load leave": "mutex_unlock", "store leave": "mutex_unlock", "exit leave": "do_exit",
+};
 
 // ---- asking
 
 const lineOf = (at) => at + 2;
-const eventAt = (run, at) => parsed(run.lines[at + 1]);
+const eventAt = (run, at) => parsed(run.lines[at]);
 const laneOfEvent = (run, at) => run.laneOf.get(run.columns.lane[at]);
 
 /** The call of a lane that is in flight behind an event: its place in the list of calls, or -1. */
@@ -290,6 +342,26 @@ function waitAt(run, lane, at) {
   return { task: lane.task, holder: lane.waits.holder[place], since, wanted };
 }
 
+/** Who waits behind an event: lists of waits, each for one thing that one task holds. */
+function waitGroups(run, at) {
+  const groups = new Map();
+  for (const lane of run.lanes) {
+    const wait = waitAt(run, lane, at);
+    if (!wait) continue;
+    const key = `${wait.holder} ${thingWords(wait.wanted)}`;
+    if (groups.has(key)) groups.get(key).push(wait);
+    else groups.set(key, [wait]);
+  }
+  return [...groups.values()];
+}
+
+/** The pool's counts behind an event; before the first one, at -1, those of a new pool. */
+function countsAt(run, at) {
+  if (at < 0) return { free: run.pool.frames, resv: 0, bare: 0, owed: 0, used: 0 };
+  const { free, resv, bare, owed, used } = run.columns;
+  return { free: free[at], resv: resv[at], bare: bare[at], owed: owed[at], used: used[at] };
+}
+
 /** How a lane's task lives behind an event. */
 function lifeAt(lane, at) {
   const { since, until, operation, isOver } = lane.calls;
@@ -308,6 +380,12 @@ function thingWords(things) {
   if (things.lock !== undefined) parts.push(`lock of file ${things.lock}`);
   if (things.slot !== undefined) parts.push(slotWords(things));
   return parts.join(" and ") || "nothing";
+}
+
+/** A wait, or the waits of several tasks for one thing that one task holds. */
+function groupWords(waits) {
+  const [{ holder, wanted }] = waits;
+  return waits.length === 1 ? waitWords(waits[0]) : `${waits.length} wait for task ${holder}: ${thingWords(wanted)}`;
 }
 
 const callWords = (event) => [event.op, ...event.numbers].join(" ");
@@ -332,4 +410,62 @@ function outcomeWords(event) {
 }
 
 const waitWords = ({ task, holder, wanted }) => `task ${task} waits for ${holder}: ${thingWords(wanted)}`;
+// Searching the events of a run by the words of their rows. Nothing here touches the page.
+
+// words behind which a number stands
+const NUMBERED = new Set(["task", "file", "index", "line"]);
+
+/** The parts of a query: `{ word }`, `{ name, number }` and `{ of }`; null where a number or a word is missing. */
+function readQuery(text) {
+  const words = text.toLowerCase().split(/[\s,:]+/).filter((word) => word !== "");
+  const parts = [];
+  for (let place = 0; place < words.length; place++) {
+    const word = words[place];
+    const takesNext = NUMBERED.has(word) || word === "of";
+    const next = takesNext ? words[++place] : undefined;
+    if (word === "of" ? next === undefined : takesNext && !/^\d+$/.test(next ?? "")) return null;
+    if (/^\d+$/.test(word)) parts.push({ name: "line", number: Number(word) });
+    else if (word === "of") parts.push({ of: next });
+    else parts.push(takesNext ? { name: word, number: Number(next) } : { word });
+  }
+  return parts;
+}
+
+/** Whether the word stands in the row of an event, as a function of the event. */
+function wordTest(run, word) {
+  const { event, operation, outcome, word: last, linux, waits } = run.columns;
+  if (word === "waits") return (at) => waits[at] === 1;
+  const code = run.dictionary.codes.get(word);
+  if (code === undefined) return () => false;
+  return (at) => [event, operation, outcome, last, linux].some((column) => column[at] === code);
+}
+
+function partTest(run, part) {
+  if (part.word !== undefined) return wordTest(run, part.word);
+  if (part.of !== undefined) {
+    const code = run.dictionary.codes.get(part.of);
+    return (at) => code !== undefined && run.columns.call[at] === code;
+  }
+  if (part.name === "line") return (at) => lineOf(at) === part.number;
+  const numbers = run.columns[part.name];
+  return (at) => numbers[at] === part.number;
+}
+
+/** The events in whose rows all that the query asks for stands, in order; none of an empty query, null where it can't be read. */
+function findEvents(run, text) {
+  const parts = readQuery(text);
+  if (!parts) return null;
+  if (parts.length === 0) return [];
+  const tests = parts.map((part) => partTest(run, part));
+  const found = [];
+  for (let at = 0; at < run.count; at++) if (tests.every((test) => test(at))) found.push(at);
+  return found;
+}
+
+/** The match behind an event, or before it, and from the last on to the first again; -1 where there is none. */
+function nextMatch(found, at, isForward) {
+  if (found.length === 0) return -1;
+  if (isForward) return found[countBelow(found, at + 1) % found.length];
+  return found[(countBelow(found, at) + found.length - 1) % found.length];
+}
 "###;
