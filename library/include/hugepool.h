@@ -323,8 +323,25 @@ uint32_t hugepool_replay(const uint8_t *trace, size_t length, uint8_t *out, size
 /** A row of words for each event of the trace, and then the state; else as hugepool_replay. */
 uint32_t hugepool_explain(const uint8_t *trace, size_t length, uint8_t *out, size_t room, size_t *needed, uint32_t *line);
 
+/** The rows of the trace's lines from first to last, all in one column and with Linux's functions, and then the state behind the last; else
+ * as hugepool_replay. Line 1 is the header. */
+uint32_t hugepool_explain_rows(const uint8_t *trace, size_t length, uint32_t first, uint32_t last, uint8_t *out, size_t room, size_t *needed,
+                               uint32_t *line);
+
+/** The same in lines of JSON: an object of the pool, one of each event of these lines, and one of the state behind the last. */
+uint32_t hugepool_explain_json(const uint8_t *trace, size_t length, uint32_t first, uint32_t last, uint8_t *out, size_t room, size_t *needed,
+                               uint32_t *line);
+
 /** A picture of the trace, an SVG; else as hugepool_replay. */
 uint32_t hugepool_draw(const uint8_t *trace, size_t length, uint8_t *out, size_t room, size_t *needed, uint32_t *line);
+
+/** The trace that a text in the loose form asks for, which has comments, blank lines, and steps that are repeated; else as hugepool_replay.
+ * BAD_LINE: *line is the first wrong line of the text, the one without a header among them. */
+uint32_t hugepool_format(const uint8_t *text, size_t length, uint8_t *out, size_t room, size_t *needed, size_t *line);
+
+/** What is wrong with the line that hugepool_format refused, in words for people to read. NO_SUCH if no line is wrong. NO_MEMORY, TOO_SMALL:
+ * *needed bytes of room are wanted. */
+uint32_t hugepool_format_reason(const uint8_t *text, size_t length, uint8_t *out, size_t room, size_t *needed);
 
 /** How many events the trace has. It takes no memory. BAD_LINE, BAD_HEADER. */
 uint32_t hugepool_check(const uint8_t *trace, size_t length, uint32_t *events, uint32_t *line);

@@ -49,6 +49,13 @@ VERDICT = re.compile(r"^(logic=proved .*? sum=\w+)", re.MULTILINE)
 KINDS = {"uint32_t": ("u32", 4), "uint64_t": ("u64", 8), "int64_t": ("i64", 8), "size_t": ("size", 8), "void *": ("pointer", 8), "bool": ("bool", 1)}
 # each row of a table of examples/README.md: a name and what it shows
 SHOWN = re.compile(r"^\| `([\w-]+)` \| (.*?) \|", re.MULTILINE)
+# the picture of a run, which is also on the page of `draw --html`; the page around it follows
+VIEWER = TOP / "crates" / "hp_page" / "page"
+SCRIPTS = [VIEWER / f"{it}.js" for it in "dom run moments search places lanes marks curves picture viewer".split()]
+SCRIPTS += [PAGE / f"{it}.js" for it in "pool trace address rows own glossary tasks forms play texts files beside page".split()]
+STYLES = VIEWER / "viewer.css", PAGE / "page.css"
+# of docs/MACHINE.md, a row of the table of phases: the phase, and Linux's function
+LINUX = re.compile(r"^\| (\w+) \| `(\w+)` \| (?:`\w+` )?\|$", re.MULTILINE)
 
 
 class Failed(Exception):
@@ -210,6 +217,12 @@ def examples() -> list[dict[str, str]]:
     return found
 
 
+def linux() -> dict[str, str]:
+    """The function of Linux that does what a step from a phase does, by the phase."""
+    text = (TOP / "docs" / "MACHINE.md").read_text(encoding="utf-8").partition("### The phases in Linux")[2]
+    return dict(LINUX.findall(text))
+
+
 def origin_of(of: Module, wasm: bytes) -> dict[str, str]:
     """What the page says of where it is from."""
     name, seconds = run(["git", "log", "-1", "--format=%H %ct"], cwd=TOP).split()
@@ -220,14 +233,16 @@ def origin_of(of: Module, wasm: bytes) -> dict[str, str]:
 
 def script() -> str:
     """The page's JavaScript as one module: the files in their order, without the lines by which they import each other."""
-    text = "\n".join((PAGE / it).read_text(encoding="utf-8") for it in ("pool.js", "trace.js", "page.js"))
+    text = "\n".join(it.read_text(encoding="utf-8") for it in SCRIPTS)
     return re.sub(r"^import .*\n", "", re.sub(r"^export ", "", text, flags=re.MULTILINE), flags=re.MULTILINE)
 
 
 def page(of: Module, wasm: bytes) -> str:
-    data = {"header": header(), "examples": examples(), "origin": origin_of(of, wasm), "wasm": base64.b64encode(wasm).decode()}
+    data = {"header": header(), "examples": examples(), "linux": linux(), "origin": origin_of(of, wasm), "wasm": base64.b64encode(wasm).decode()}
     parts = {
-        "style": (PAGE / "page.css").read_text(encoding="utf-8"),
+        "style": "".join(it.read_text(encoding="utf-8") for it in STYLES),
+        "legend": (VIEWER / "legend.html").read_text(encoding="utf-8"),
+        "help": (VIEWER / "help.html").read_text(encoding="utf-8"),
         "data": json.dumps(data, ensure_ascii=False, separators=(",", ":")).replace("</", "<\\/"),
         "script": script(),
     }

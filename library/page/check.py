@@ -1,14 +1,13 @@
 #!/usr/bin/env python3
-"""Tries the page: its module on all traces of examples/, and clicks in a browser.
+"""Tries the page: functions of its own, its module on all traces of examples/, and clicks in browsers.
 
 usage: library/page/check.py [PAGE.html]
 
-With no page named, ./page writes one to try. Without node nothing is tried, and without chromium nothing is clicked. CHROMIUM names another
-browser that is made of it. The last line is 'N passed, M failed'.
+With no page named, ./page writes one to try. Without node nothing is tried. Clicks are made in Chromium and in Firefox, where they are there;
+CHROMIUM and FIREFOX name others of their kind. The last line is 'N passed, M failed'.
 """
 from __future__ import annotations
 
-import os
 import re
 import shutil
 import subprocess
@@ -43,12 +42,7 @@ def main(words: list[str]) -> int:
         file = Path(words[0]) if words else Path(room) / "hugepool.html"
         if not words and subprocess.run([TOP / "page", file]).returncode:
             return 1
-        counts = [node(PAGE / "module.mjs", file)]
-        browser = os.environ.get("CHROMIUM", "chromium")
-        if shutil.which(browser):
-            counts.append(node(PAGE / "clicks.mjs", file))
-        else:
-            print(f"page: no clicks are tried, since '{browser}' is missing (package: chromium)")
+        counts = [node(PAGE / it, file) for it in ("functions.mjs", "module.mjs", "clicks.mjs")]
     passed, failed = (sum(it) for it in zip(*counts))
     print(f"{passed} passed, {failed} failed")
     return 1 if failed else 0

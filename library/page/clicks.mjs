@@ -1,220 +1,324 @@
 #!/usr/bin/env node
-// Clicks through a page in Chromium, without a window, and looks at what it shows.
+// Clicks through the page in the browsers that are there, without a window, and looks at what it shows.
 //
 //   library/page/clicks.mjs PAGE.html [FOLDER]    with FOLDER: pictures of the page, by width and by light, are put there
 //
-// CHROMIUM names the browser, chromium if it doesn't. The last line is 'N passed, M failed'.
-import { spawn } from "node:child_process";
+// TRIES names the tries that are made, as 'Moves Events'; all are if it doesn't. The last line is 'N passed, M failed'.
 import fs from "node:fs";
-import os from "node:os";
 import path from "node:path";
 import { pathToFileURL } from "node:url";
+import { inBrowsers } from "./browsers.mjs";
 
-const FLAGS = ["--headless=new", "--no-sandbox", "--disable-gpu", "--no-first-run", "--remote-debugging-pipe", "--window-size=1280,900"];
 const [file, pictures] = process.argv.slice(2);
 const address = pathToFileURL(path.resolve(file)).href;
-// milliseconds in which a page has to come to what is expected, and a move of a long trace has to be made
-const PATIENCE = 10_000;
-const QUICK = 100;
-
-/** A browser that is spoken to over a pipe, in messages of JSON that end with a byte 0. */
-class Browser {
-  constructor(profile) {
-    const words = [...FLAGS, `--user-data-dir=${profile}`, "about:blank"];
-    this.process = spawn(process.env.CHROMIUM ?? "chromium", words, { stdio: ["ignore", "ignore", "ignore", "pipe", "pipe"] });
-    this.waiting = new Map();
-    this.seen = [];
-    this.last = 0;
-    let rest = "";
-    this.process.stdio[4].setEncoding("utf8").on("data", (text) => {
-      const parts = (rest + text).split("\0");
-      rest = parts.pop();
-      parts.forEach((it) => this.take(JSON.parse(it)));
-    });
-  }
-
-  take(message) {
-    const { done, fail } = this.waiting.get(message.id) ?? {};
-    if (!done) return this.seen.push(message);
-    this.waiting.delete(message.id);
-    if (message.error) fail(new Error(message.error.message));
-    else done(message.result);
-  }
-
-  send(method, params = {}) {
-    const id = ++this.last;
-    this.process.stdio[3].write(`${JSON.stringify({ id, method, params, sessionId: this.session })}\0`);
-    return new Promise((done, fail) => this.waiting.set(id, { done, fail }));
-  }
-
-  async start() {
-    const { targetInfos } = await this.send("Target.getTargets");
-    const { targetId } = targetInfos.find((it) => it.type === "page");
-    this.session = (await this.send("Target.attachToTarget", { targetId, flatten: true })).sessionId;
-    for (const it of ["Page", "Runtime", "Network", "Log"]) await this.send(`${it}.enable`);
-  }
-
-  async run(expression) {
-    const { result, exceptionDetails } = await this.send("Runtime.evaluate", { expression, awaitPromise: true, returnByValue: true });
-    if (exceptionDetails) throw new Error(exceptionDetails.exception?.description ?? exceptionDetails.text);
-    return result.value;
-  }
-
-  async open(hash) {
-    await this.send("Page.navigate", { url: "about:blank" });
-    await this.send("Page.navigate", { url: address + hash });
-    await this.until("document.readyState === 'complete' && (!document.getElementById('main').hidden || !document.getElementById('missing').hidden)");
-  }
-
-  async until(expression) {
-    for (const end = Date.now() + PATIENCE; Date.now() < end; await new Promise((it) => setTimeout(it, 30))) if (await this.run(expression)) return true;
-    return false;
-  }
-
-  /** The pointer is pressed on an element, where it stands on the screen. */
-  async click(selector) {
-    const place = `(() => { const it = document.querySelector(${JSON.stringify(selector)}); it.scrollIntoView({ block: "center" });
-      const { x, y, width, height } = it.getBoundingClientRect(); return { x: x + width / 2, y: y + height / 2 }; })()`;
-    const at = { ...(await this.run(place)), button: "left", clickCount: 1 };
-    for (const type of ["mousePressed", "mouseReleased"]) await this.send("Input.dispatchMouseEvent", { type, ...at });
-  }
-
-  async press(key) {
-    const code = { ArrowLeft: 37, ArrowRight: 39 }[key];
-    for (const type of ["keyDown", "keyUp"]) await this.send("Input.dispatchKeyEvent", { type, key, code: key, windowsVirtualKeyCode: code });
-  }
-}
+// milliseconds in which the page has to come to what is expected, however busy the machine is
+const PATIENCE = 60_000;
 
 let passed = 0;
 let failed = 0;
-const profile = fs.mkdtempSync(path.join(os.tmpdir(), "page-clicks-"));
-const browser = new Browser(profile);
+let browser, kind;
 const text = (selector) => `document.querySelector(${JSON.stringify(selector)}).textContent`;
 const card = (task) => `[aria-label="Task ${task}"]`;
-const isOff = (task, kind) => `document.querySelector('[aria-label="${kind} task ${task}"]').disabled`;
+const isOff = (selector) => `(document.querySelector(${JSON.stringify(selector)}).getAttribute("aria-disabled") === "true")`;
+const turn = (kind_, task) => `[aria-label="${kind_} task ${task}"]`;
+const now = (start) => `${text("#now")}.startsWith(${JSON.stringify(start)})`;
+const isAt = (at, count) => `${text("#now")}.includes("(event ${at} of ${count})")`;
 
 async function expect(what, expression) {
-  const isWell = await browser.until(expression);
+  const isWell = await browser.until(expression, PATIENCE);
   if (isWell) passed++;
   else failed++;
-  if (!isWell) console.log(`page: ${what}: ${expression} isn't so; the page is at ${await browser.run(text("#now"))}`);
+  if (!isWell) console.log(`page: ${kind.name}: it isn't so: ${what}: ${expression}; the page is at ${await browser.run(text("#now"))}`);
 }
 
+async function open(hash) {
+  await browser.go(address + hash);
+  await browser.until("document.body.dataset.isReady === 'true' || !document.getElementById('missing').hidden");
+}
+
+const act = (statements) => browser.run(`(() => { ${statements} })()`);
+
 async function choose(selector, value) {
-  await browser.run(`{ const it = document.querySelector(${JSON.stringify(selector)}); it.value = ${JSON.stringify(value)}; it.dispatchEvent(new Event("change")); }`);
+  await act(`const it = document.querySelector(${JSON.stringify(selector)}); it.value = ${JSON.stringify(value)}; it.dispatchEvent(new Event("change"));`);
 }
 
 async function type(lines) {
-  await browser.run(`{ const it = document.getElementById("text"); it.value = ${JSON.stringify(lines.join("\n"))}; it.dispatchEvent(new Event("input")); }`);
-  await expect("what is typed is shown", `document.getElementById("rows").rows.length === ${lines.length}`);
+  await act(`document.getElementById("editing").open = true; document.getElementById("text").focus();`);
+  await browser.run("new Promise((done) => setTimeout(done, 50))"); // (in which the field gets the trace that is shown)
+  await act(`const it = document.getElementById("text"); it.value = ${JSON.stringify(lines.join("\n"))}; it.dispatchEvent(new Event("input"));`);
 }
 
 async function tryMoves() {
-  await browser.open("#two-maps-one-lock@5");
-  await expect("a place in an example", `${text("#now")}.startsWith("After line 6, step 2: blocked 1")`);
-  await expect("who is blocked by whom", `${text(`${card(2)} .waits`)} === "waits for task 1: lock of file 0"`);
+  await open("#two-maps-one-lock@5");
+  await expect("a place in an example", now("After line 6, step 2: blocked 1"));
+  await expect("who is blocked by whom, and since when", `${text(`${card(2)} .waits`)} === "waits for task 1: lock of file 0, since line 5"`);
   await expect("who blocks", `${text(`${card(1)} .blocks`)} === "holds back task 2"`);
-  await expect("a blocked task can't step", `${isOff(2, "step")} && ${isOff(2, "deny")} && !${isOff(2, "kill")} && !${isOff(1, "step")}`);
+  await expect("a blocked task can't step", `${isOff(turn("step", 2))} && ${isOff(turn("deny", 2))} && !${isOff(turn("kill", 2))} && !${isOff(turn("step", 1))}`);
   await browser.press("ArrowRight");
-  await expect("an event on", `${text("#now")}.startsWith("After line 7, step 1: moved changed")`);
+  await expect("an event on", now("After line 7, step 1: moved changed"));
   await browser.press("ArrowLeft");
   await browser.press("ArrowLeft");
-  await expect("two events back", `${text("#now")}.startsWith("After line 5, begin 2 map 0 1 3: begun")`);
+  await expect("two events back", now("After line 5, begin 2 map 0 1 3: begun"));
+  await browser.click(`${card(2)} .waits .link`);
+  await expect("to where a wait began", isAt(4, 17));
   await browser.click("#last");
-  await expect("the last event", `${text("#now")}.includes("event 17 of 17")`);
-  await browser.click("#rows tr:nth-child(9)");
-  await expect("a line that is clicked", `${text("#now")}.includes("event 8 of 17")`);
-  await expect("the explanation", `${text("#explanation")}.includes("task 2 is at start: holds nothing, wants lock of file 0, owes 0")`);
-  await expect("the picture", `document.getElementById("picture").shadowRoot.querySelector("svg") !== null`);
+  await expect("the last event", isAt(17, 17));
+  await browser.click("#lines-8");
+  await expect("a line that is clicked", isAt(8, 17));
+  await browser.press("ArrowUp");
+  await browser.press("ArrowUp");
+  await expect("lines by the keyboard", `${isAt(6, 17)} && document.activeElement.id === "lines" && document.querySelector("#lines [aria-selected]").id === "lines-6"`);
+  await browser.press("End");
+  await browser.press("Home");
+  await expect("the first line", `${now("Before the first event")} && ${isOff("#back")}`);
+}
+
+/** A click in the picture moves there, and turns of tasks act on it. */
+async function tryPicture() {
+  await open("#two-maps-one-lock@8");
+  const inks = `(() => { const it = document.getElementById("canvas"); return it.getContext("2d").getImageData(0, 0, it.width, it.height).data.reduce((sum, value) => (sum * 31 + value) % 1000003, 0); })()`;
+  await expect("the picture and its legend are in sight", `["picture", "legend"].every((id) => { const { top, bottom } = document.getElementById(id).getBoundingClientRect(); return top >= 0 && bottom <= innerHeight; })`);
+  const before = await browser.run(inks);
+  await browser.click("#picture", "200", "70");
+  await expect("a click moves there", `!${isAt(8, 17)} && /event ([2-9]) of 17/.test(${text("#now")})`);
+  await expect("the picture follows", `${inks} !== ${before}`);
+  await browser.press("ArrowDown");
+  await browser.press("PageDown");
+  await expect("keys of the picture", `${isAt(17, 17)} || /event 1[0-9] of 17/.test(${text("#now")})`);
+  await act(`document.getElementById("query").value = "blocked"; document.getElementById("query").dispatchEvent(new Event("input"));`);
+  await browser.click("#match-on");
+  await expect("a match", `${isAt(5, 17)} && ${text("#found")} === "1 of 1 match"`);
+  await browser.click(turn("step", 1));
+  await expect("a step is in the picture", `${isAt(6, 6)} && ${inks} !== ${before}`);
+  await browser.click("#ask");
+  await browser.press("Escape");
+  await expect("Escape closes the help", `document.getElementById("help").hidden && document.activeElement.id === "ask"`);
 }
 
 async function tryEvents() {
-  await browser.open("#two-maps-one-lock@8");
-  await browser.click(`[aria-label="kill task 2"]`);
+  await open("#two-maps-one-lock@8");
+  await browser.click(turn("kill", 2));
   await expect("a kill replaces what came behind", `${text("#now")}.includes("kill 2: marked (event 9 of 9)") && ${text(`${card(2)} .killed`)} === "killed"`);
-  await browser.click(`[aria-label="step task 1"]`);
-  await expect("a step", `${text("#now")}.startsWith("After line 11, step 1: moved leave")`);
-  await browser.click("#undo");
-  await browser.click("#undo");
-  await expect("undone", `${text("#now")}.includes("event 8 of 17")`);
-  await browser.click("#copy");
-  await expect("the trace is copied, or selected", `${text("#copied")} !== ""`);
+  await expect("the keyboard stays on a button that is off", `document.activeElement.getAttribute("aria-label") === "kill task 2" && ${isOff(turn("kill", 2))}`);
+  await browser.press("Enter");
+  await expect("a button that is off does nothing", isAt(9, 9));
+  await browser.click(turn("step", 1));
+  await expect("a step", now("After line 11, step 1: moved leave"));
+  await browser.press("z", { ctrl: true });
+  await browser.press("z", { ctrl: true });
+  await expect("undone", isAt(8, 17));
+  await browser.press("z", { ctrl: true, shift: true });
+  await expect("made again", isAt(9, 9));
+  await browser.click("#redo");
+  await expect("and again", `${now("After line 11, step 1: moved leave")} && ${isOff("#redo")}`);
   await browser.click("#clear");
-  await expect("no events", `${text("#now")}.startsWith("Before the first event")`);
+  await expect("no events", now("Before the first event"));
   await choose("#begin-call", "store");
   await browser.click("#begin button");
   await expect("a call that is begun", `${text(`${card(1)} .call`)} === "store 0 0 in look"`);
-  await browser.click(`[aria-label="deny task 1"]`);
+  await expect("what its next step does, in Linux, too", `${text(`${card(1)} .linux`)} === "next: looks whether the page is mapped, and translated already (Linux: hugetlb_fault)"`);
+  await browser.click(turn("deny", 1));
   await expect("its end", `${text("#now")}.includes("ended segv")`);
-  await browser.run(`document.getElementById("resize-frames").value = 7`);
+}
+
+async function tryFields() {
+  await open("#two-maps-one-lock@0");
+  const set = (selector, value) => act(`const it = document.querySelector("${selector}"); it.value = "${value}"; it.dispatchEvent(new Event("input", { bubbles: true }));`);
+  for (const wrong of ["1e3", "01", "-1", "1.5", "4294967296", ""]) {
+    await set("#begin-numbers input", wrong);
+    await browser.click("#begin button");
+    await expect(`no call begins with ${wrong}`, `${isAt(0, 17)} && !document.querySelector("#begin-numbers input").checkValidity()`);
+  }
+  await set("#resize-frames", "7");
   await browser.click("#resize button");
   await expect("a resize", `${text("#now")}.includes("resize 7: resized 7") && ${text("#counts")}.startsWith("frames7free7")`);
+  await browser.press("z", { ctrl: true });
+  await browser.click("#undo");
+  await expect("the field has the pool's frames", `document.getElementById("resize-frames").value === "4" && ${isAt(0, 17)}`);
 }
 
 async function tryTexts() {
+  const shows = (count) => `document.querySelector("#lines .row").getAttribute("aria-setsize") === "${count}"`;
+  await open("");
   await type(["pool 4 1 4 2", "begin 1 map 0 0 2", "step 01", "step 1"]);
   await expect("what is wrong with a line", `${text("#fault")} === 'Line 3 is not allowed here: 01 begins with a zero: "step 01"'`);
-  await expect("the line says so", `${text("#rows .bad")}.includes("begins with a zero")`);
-  await expect("the lines before it are run", `${text("#now")}.includes("event 1 of 1")`);
+  await expect("the line says so", `${text("#lines .bad")}.includes("begins with a zero")`);
+  await expect("the lines before it are run", isAt(1, 1));
   await type(["pool 0 1 4 2"]);
   await expect("what is wrong with a header", `${text("#fault")}.startsWith("Line 1 is not a pool header: ")`);
+  await type(["# two pages", "pool 4 1 4 2  # small", "", "begin 1 map 0 0 2", "step 1 *3", "step 1 until ended"]);
+  await expect("comments and repeats", `${text("#now")}.includes("ended mapped 0 (event 8 of 8)") && document.getElementById("fault").hidden && ${shows(9)}`);
+  await type(["pool 4 1 4 2", "# a store ends at once", "begin 1 store 0 7", "step 1 until taken"]);
+  await expect("what is wrong with a loose line", `${text("#notice")} === "Line 4 names a phase that the call doesn't reach: it ended segv. The lines before it are shown." && ${isAt(1, 1)}`);
   await choose("#example", "truncate-against-store");
   await browser.click("#undo");
-  await expect("an example that is undone", `${text("#fault")}.startsWith("Line 1 is not a pool header: ")`);
+  await expect("an example that is undone", isAt(1, 1));
   await choose("#example", "truncate-against-store");
-  await expect("a script", `${text("#now")}.startsWith("Before the first event") && ${text(`${card(2)} .buttons`)}.includes("begin 2 map 0 0 4")`);
-  await browser.run(`while (!document.getElementById("chance").disabled) document.getElementById("chance").click()`);
-  await expect("a script is played to its end", `${text("#counts")}.includes("calls in flight0") && document.getElementById("rows").rows.length > 40`);
+  await expect("a script", `${now("Before the first event")} && ${text(`${card(2)} .buttons`)}.includes("begin 2 map 0 0 4")`);
+  await act(`const it = document.getElementById("chance");
+    for (let turns = 0; turns < 500 && it.getAttribute("aria-disabled") !== "true"; turns++) it.click();`);
+  await expect("a script is played to its end", `${text("#counts")}.includes("calls in flight0") && Number(document.querySelector("#lines .row").getAttribute("aria-setsize")) > 40`);
+}
+
+/** Playing, and the slider. */
+async function tryPlaying() {
+  await open("#two-maps-one-lock@0");
+  await choose("#speed", "100");
+  await browser.click("#play");
+  await expect("it plays to the end, and stops", `${isAt(17, 17)} && ${text("#play")} === "play"`);
+  await act(`const it = document.getElementById("scrub"); it.value = 3; it.dispatchEvent(new Event("input"));`);
+  await expect("the slider", `${isAt(3, 17)} && ${text("#place")} === "3 of 17"`);
+  await choose("#speed", "1");
+  await browser.click("#play");
+  await expect("it plays", `${text("#play")} === "pause" && ${isAt(4, 17)}`);
+  await browser.click("#back");
+  await expect("a move stops it", `${text("#play")} === "play"`);
+}
+
+async function tryAddresses() {
+  for (const [hash, place, why] of [
+    ["#two-maps-one-lock@abc", isAt(17, 17), 'The address ends with "@abc", which is no number of events: the last one is shown.'],
+    ["#two-maps-one-lock@-1", isAt(17, 17), 'The address ends with "@-1", which is no number of events: the last one is shown.'],
+    ["#two-maps-one-lock@1.5", isAt(17, 17), 'The address ends with "@1.5", which is no number of events: the last one is shown.'],
+    ["#two-maps-one-lock@99", isAt(17, 17), "The trace has 17 events, so none is behind 99 of them."],
+    ["#%", isAt(17, 17), 'The address ends with "#%", which can\'t be read.'],
+    ["#no-such", isAt(17, 17), 'No example is named "no-such".'],
+    ["#trace=!", isAt(17, 17), null],
+  ]) {
+    await open(hash);
+    await expect(`the address ${hash}`, `${place} && !document.getElementById("notice").hidden${why ? ` && ${text("#notice")} === ${JSON.stringify(why)}` : ""}`);
+  }
+  await open("#two-maps-one-lock@3");
+  await act(`location.hash = "#kill-and-exit@2";`);
+  await expect("an address that changes in an open page", `document.getElementById("example").value === "kill-and-exit" && ${text("#now")}.includes("(event 2 of ")`);
+  await act(`location.hash = "#proof";`);
+  await expect("a place on the page is no example", `document.getElementById("notice").hidden && document.getElementById("example").value === "kill-and-exit"`);
+  await type(["pool 4 1 4 2", "begin 1 map 0 0 2", "step 1 *4"]);
+  await expect("one's own trace", isAt(5, 5));
+  await browser.click("#back");
+  await browser.click("#link");
+  await expect("its link stands in the address", `location.hash.startsWith("#trace=") && location.hash.endsWith("@4")`);
+  const hash = await browser.run("location.hash");
+  await open(hash);
+  await expect("the link leads to the trace", `${isAt(4, 5)} && ${now("After line 5, step 1: moved ")} && document.getElementById("notice").hidden`);
+}
+
+/** Files: one that is opened, and one that is saved. */
+async function tryFiles() {
+  await open("");
+  await act(`const files = new DataTransfer(); files.items.add(new File(["pool 2 1 4 1\\nbegin 1 map 0 0 1\\n"], "mine.trace")); const it = document.getElementById("file");
+    it.files = files.files; it.dispatchEvent(new Event("change"));`);
+  await expect("a file that is opened", isAt(1, 1));
+  if (kind.name !== "Chromium") return; // (the other one keeps a script of a test from the page's own functions)
+  const saved = await browser.run(`new Promise((done) => { const made = URL.createObjectURL; URL.createObjectURL = (blob) => { blob.text().then(done); return made.call(URL, blob); };
+    document.getElementById("save").click(); URL.createObjectURL = made; })`);
+  await expect("a file that is saved", `${JSON.stringify(saved)} === ${JSON.stringify("pool 2 1 4 1\nbegin 1 map 0 0 1\n")}`);
+}
+
+/** Two schedules of one script, side by side. */
+async function tryBeside() {
+  await open("#two-maps-one-lock@5");
+  await browser.click("#keep");
+  await expect("a run beside itself", `${text("#parting")} === "The two runs are one."`);
+  await browser.click(turn("kill", 2));
+  await expect("where they part", `${text("#parting")} === "The runs are one up to line 6, and part behind it." && ${text("#beside-lines .differs")} === "7step 1moved changedkill 2marked"`);
+  await browser.click("#forget");
+  await expect("it is forgotten", `document.getElementById("beside").hidden && document.activeElement.id === "keep"`);
+}
+
+const took = (does) => browser.run(`(async () => { const began = performance.now(); ${does}; document.body.offsetHeight; return performance.now() - began; })()`);
+const least = (times) => Math.min(...times).toFixed(0);
+const most = (times) => Math.max(...times).toFixed(0);
+
+/** 64 tasks, 61 of which wait for the one that holds the lock; and 20,000 events. */
+function longTrace() {
+  const lines = ["pool 64 1 16 64", "begin 55 map 0 0 1", "step 55"];
+  for (let task = 1; task <= 61; task++) lines.push(`begin ${task < 55 ? task : task + 1} map 0 0 2`);
+  lines.push("begin 63 map 0 0 1");
+  while (lines.length < 20_001) lines.push(`step ${lines.length % 2 ? 3 : 63}`);
+  return lines;
 }
 
 async function tryLong() {
-  const round = ["begin 1 load 0", ...Array(4).fill("step 1")];
-  await type(["pool 4 1 4 2", "begin 1 map 0 0 1", ...Array(7).fill("step 1"), ...Array.from({ length: 1992 }, (_, at) => round[at % round.length])]);
-  await expect("2,000 events", `${text("#now")}.includes("event 2000 of 2000")`);
-  const took = (does) => browser.run(`(async () => { const began = performance.now(); ${does}; document.body.offsetHeight; return performance.now() - began; })()`);
-  const back = await took(`document.getElementById("back").click()`);
-  await expect("an event back", `${text("#now")}.includes("event 1999 of 2000")`);
-  const step = await took(`document.querySelector('[aria-label="kill task 1"]').click()`);
-  await expect("an event more", `${text("#now")}.includes("kill 1: marked (event 2000 of 2000)")`);
-  console.log(`page: in a trace of 2,000 events a move takes ${back.toFixed(0)} ms, and a new event ${step.toFixed(0)} ms`);
-  await expect("both are quick", `${back} < ${QUICK} && ${step} < ${QUICK}`);
+  await open("");
+  const loads = [];
+  for (let tries = 0; tries < 3; tries++) {
+    await type(["pool 4 1 4 2"]);
+    await expect("a pool alone", isAt(0, 0));
+    loads.push(await browser.run(`(async () => { const it = document.getElementById("text"); it.value = ${JSON.stringify(longTrace().join("\n"))};
+    it.getBoundingClientRect(); const began = performance.now(); it.dispatchEvent(new InputEvent("input", { inputType: "insertFromPaste" }));
+    while (!document.getElementById("now").textContent.includes("(event 20000 of 20000)") && performance.now() < began + 20000) await new Promise((done) => setTimeout(done, 5));
+    await new Promise((done) => requestAnimationFrame(() => setTimeout(done))); return performance.now() - began; })()`));
+  }
+  await expect("20,000 events", isAt(20_000, 20_000));
+  await expect("those that wait are folded", `[...document.querySelectorAll(".fold summary")].some((it) => it.textContent === "62 wait for task 55: lock of file 0")`);
+  await browser.run(`new Promise((done) => setTimeout(done, 500))`);
+  const moves = [];
+  for (const id of ["back", "on", "first", "last", "back", "back", "back"]) moves.push(await took(`document.getElementById("${id}").click()`));
+  await act(`const it = document.getElementById("scrub"); it.value = 19000; it.dispatchEvent(new Event("input"));`);
+  const turns = [];
+  for (let tries = 0; tries < 5; tries++) turns.push(await took(`document.getElementById("chance").click()`));
+  const midst = [];
+  for (let tries = 0; tries < 5; tries++) {
+    await act(`const it = document.getElementById("scrub"); it.value = 10000; it.dispatchEvent(new Event("input"));`);
+    midst.push(await took(`document.getElementById("chance").click()`));
+  }
+  await expect("a turn in the midst", isAt(10_001, 10_001));
+  await browser.click("#undo");
+  await expect("which is undone", `${text("#now")}.includes("(event 10000 of ")`);
+  await browser.click("#explanation");
+  await expect("rows of the explanation", `document.querySelectorAll("#explanation .row").length > 5 && document.querySelector("#explanation [aria-current]") !== null`);
+  const texts = await browser.run(`(async () => { document.getElementById("back").click(); let most = 0; let last = performance.now();
+    for (const end = last + 800; last < end; ) { await new Promise((done) => setTimeout(done)); const now = performance.now(); most = Math.max(most, now - last); last = now; } return most; })()`);
+  console.log(`page: ${browser.name}: 20,000 events of 64 tasks are there after ${least(loads)} to ${most(loads)} ms; a move takes ${least(moves)} to ${most(moves)} ms, `
+    + `a random turn ${least(turns)} to ${most(turns)} ms, one in the midst ${least(midst)} to ${most(midst)}; texts hold the page for ${texts.toFixed(0)} ms`);
 }
 
+/** (one browser can be made to lack something before the page is there) */
 async function tryMissing() {
+  if (kind.name !== "Chromium") return;
   const { identifier } = await browser.send("Page.addScriptToEvaluateOnNewDocument", { source: "WebAssembly.validate = () => false" });
-  await browser.open("");
+  await open("");
   await expect("a browser without memory64", `document.getElementById("main").hidden && ${text("#missing")}.includes("Firefox from 134")`);
   await browser.send("Page.removeScriptToEvaluateOnNewDocument", { identifier });
 }
 
-/** Pictures of the whole page. */
-async function show(name, width, light, hash) {
-  await browser.send("Emulation.setDeviceMetricsOverride", { width, height: 900, deviceScaleFactor: 1, mobile: false });
-  await browser.send("Emulation.setEmulatedMedia", { features: [{ name: "prefers-color-scheme", value: light }] });
-  await browser.open(hash);
-  await browser.until(`document.getElementById("picture").shadowRoot.querySelector("svg") !== null`);
-  const height = await browser.run("document.documentElement.scrollHeight");
-  const wide = await browser.run("document.documentElement.scrollWidth");
-  await expect(`nothing is wider than ${width} pixels`, `${wide} <= ${width}`);
-  const { data } = await browser.send("Page.captureScreenshot", { captureBeyondViewport: true, clip: { x: 0, y: 0, width, height, scale: 1 } });
-  if (pictures) fs.writeFileSync(path.join(pictures, `${name}-${width}-${light}.png`), Buffer.from(data, "base64"));
+/** Nothing is wider than the window, by width and by light. */
+async function tryLooks() {
+  for (const width of [1280, kind.narrow]) {
+    for (const light of ["light", "dark"]) {
+      await browser.size(width, 900);
+      await browser.light(light);
+      await open("#calls-in-flight");
+      await expect(`nothing is wider than ${width} pixels`, `document.documentElement.scrollWidth <= ${width}`);
+      await expect("the picture is in the first screen", `document.getElementById("picture").getBoundingClientRect().bottom <= 900`);
+      await expect("it has the light that is asked for", `getComputedStyle(document.body).backgroundColor === "${light === "dark" ? "rgb(20, 22, 27)" : "rgb(246, 247, 249)"}"`);
+      if (pictures) fs.writeFileSync(path.join(pictures, `page-${kind.name}-${width}-${light}.png`), await browser.picture());
+      await act(`for (const it of document.querySelectorAll("details")) it.open = true; document.getElementById("keep").click(); document.getElementById("ask").click();`);
+      await expect(`nothing is wider than ${width} pixels where all is open`, `document.documentElement.scrollWidth <= ${width}`);
+    }
+  }
+  await browser.size(1280, 900);
+  await browser.light("light");
 }
 
-try {
-  await browser.start();
-  for (const it of [tryMoves, tryEvents, tryTexts, tryLong, tryMissing]) await it();
-  for (const width of [1280, 400]) for (const light of ["light", "dark"]) await show("page", width, light, "#calls-in-flight");
-  const asked = browser.seen.filter((it) => it.method === "Network.requestWillBeSent").map((it) => it.params.request.url);
-  await expect("nothing is asked of the network", `${asked.every((it) => it.startsWith(address))}`);
-  const wrong = browser.seen.filter((it) => it.method === "Runtime.exceptionThrown" || (it.method === "Log.entryAdded" && it.params.entry.level === "error"));
-  wrong.forEach((it) => console.log(`page: ${JSON.stringify(it.params)}`));
-  await expect("nothing is thrown", `${wrong.length} === 0`);
-  console.log(`page: ${(await browser.send("Browser.getVersion")).product}`);
-} finally {
-  const ended = new Promise((done) => browser.process.once("exit", done));
-  browser.process.kill();
-  await ended;
-  fs.rmSync(profile, { recursive: true, force: true, maxRetries: 9 });
+/** Moves stay in sight where the page scrolls, and what is said has roles and names. */
+async function tryRoles() {
+  await open("#two-maps-one-lock@5");
+  await act("window.scrollTo(0, 900);");
+  await expect("the moves are pinned", `document.getElementById("moves").getBoundingClientRect().top === 0`);
+  await expect("each button and field has a name", `[...document.querySelectorAll("button, input, select, textarea")].every((it) => it.hidden || it.closest("[hidden]") || (it.textContent + (it.getAttribute("aria-label") ?? "") + (it.labels?.[0]?.textContent ?? "")).trim() !== "")`);
+  await expect("phases have words", `document.querySelector(".task .call b").title.length > 5 && document.querySelectorAll("#phases dt").length === 27`);
 }
+
+const asked = process.env.TRIES?.split(" ").map((it) => `try${it}`);
+await inBrowsers(async (...it) => {
+  [browser, kind] = it;
+  const all = [tryMoves, tryPicture, tryEvents, tryFields, tryTexts, tryPlaying, tryAddresses, tryFiles, tryBeside, tryLong, tryRoles, tryMissing, tryLooks];
+  for (const tries of all.filter((one) => !asked || asked.includes(one.name))) await tries();
+  const wrong = await browser.complaints(address);
+  wrong.forEach((complaint) => console.log(`page: ${kind.name}: ${complaint}`));
+  await expect("nothing goes wrong, and nothing is asked of the network", `${wrong.length} === 0`);
+});
 console.log(`${passed} passed, ${failed} failed`);
 process.exit(failed ? 1 : 0);

@@ -82,6 +82,7 @@ function time() {
   const round = ["step 1", "step 1", "step 1", "step 1", "step 1", "step 1", "step 1", "begin 1 store 0 7"];
   const lines = ["pool 4 1 4 2", "begin 1 map 0 0 1", ...Array.from({ length: TIMED }, (_, at) => round[at % round.length])];
   start(lines);
+  library.go(0);
   const began = performance.now();
   library.go(TIMED + 1);
   console.log(`page: ${((1e6 * (performance.now() - began)) / TIMED).toFixed(0)} ns an event in the module`);

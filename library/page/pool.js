@@ -16,6 +16,10 @@ const SETTERS = {
 // room for any one struct, and for the count and the line that a call puts beside a text
 const SCRATCH = 256;
 const TEXT = 1 << 16;
+// a pool has room for so many events at first
+const LEAST_EVENTS = 64;
+// a line behind all lines
+const LAST = 0xffffffff;
 
 /** What a call answered that can't happen here: the page never asks for what isn't there. */
 export class Refused extends Error {}
@@ -54,14 +58,33 @@ export class Library {
     return new Uint8Array(this.exports.memory.buffer, Number(at), size);
   }
 
-  read(name, at) {
+  /** The structs that stand one behind the other from a place on. */
+  readAll(name, at, count) {
+    const { size, fields } = this.structs[name];
     const view = new DataView(this.exports.memory.buffer, Number(at));
-    return Object.fromEntries(this.structs[name].fields.map(([field, kind, place]) => [field, GETTERS[kind](view, place)]));
+    return Array.from({ length: count }, (_, which) => {
+      const values = {};
+      for (const [field, kind, place] of fields) values[field] = GETTERS[kind](view, which * size + place);
+      return values;
+    });
+  }
+
+  /** Puts structs there; a field without a value is 0. */
+  writeAll(name, at, list) {
+    const { size, fields } = this.structs[name];
+    this.bytes(at, size * list.length).fill(0);
+    const view = new DataView(this.exports.memory.buffer, Number(at));
+    list.forEach((values, which) => {
+      for (const [field, kind, place] of fields) if (values[field]) SETTERS[kind](view, which * size + place, values[field]);
+    });
+  }
+
+  read(name, at) {
+    return this.readAll(name, at, 1)[0];
   }
 
   write(name, at, values) {
-    const view = new DataView(this.exports.memory.buffer, Number(at));
-    for (const [field, kind, place] of this.structs[name].fields) SETTERS[kind](view, place, values[field] ?? 0);
+    this.writeAll(name, at, [values]);
   }
 
   // ---- calls
@@ -83,15 +106,50 @@ export class Library {
     this.answered(this.exports.hugepool_open(this.pool, this.scratch));
   }
 
-  /** Opens a pool and makes all events; what came of each. They stay in memory, so that any moment can be gone back to at once. */
-  start(config, events) {
+  /** Opens a pool to which nothing has happened yet. Its events stay in memory, so that any moment can be gone back to at once. */
+  begin(config) {
     this.end();
-    const size = this.structs.event_words.size;
-    const room = this.structs.outcome_words.size;
-    this.run = { config, count: events.length, events: this.take(size * events.length), outcomes: this.take(room * events.length) };
-    events.forEach((event, place) => this.write("event_words", this.run.events + BigInt(place * size), event));
-    this.go(events.length); // (which tells what came of each)
-    return events.map((_, place) => this.read("outcome_words", this.run.outcomes + BigInt(place * room)));
+    this.run = { config, count: 0, at: 0, room: 0, events: null, outcomes: null };
+    this.widen(LEAST_EVENTS);
+    this.open(config);
+  }
+
+  /** Has room for so many events. */
+  widen(count) {
+    const { run, structs } = this;
+    if (count <= run.room) return;
+    const room = Math.max(count, 2 * run.room);
+    for (const [name, of] of [["events", "event_words"], ["outcomes", "outcome_words"]]) {
+      const wider = this.take(structs[of].size * room);
+      if (run[name] !== null) {
+        this.bytes(wider, structs[of].size * run.count).set(this.bytes(run[name], structs[of].size * run.count));
+        this.give(run[name]);
+      }
+      run[name] = wider;
+    }
+    run.room = room;
+  }
+
+  /** Where an event stands in memory, or an outcome. */
+  placeOf(name, of, place) {
+    return this.run[name] + BigInt(place * this.structs[of].size);
+  }
+
+  /** Makes these events behind so many that stay, in place of what came there; what came of each. */
+  extend(keep, events) {
+    this.go(keep);
+    this.run.count = keep;
+    this.widen(keep + events.length);
+    this.writeAll("event_words", this.placeOf("events", "event_words", keep), events);
+    this.run.count = keep + events.length;
+    this.go(this.run.count); // (which tells what came of each)
+    return this.readAll("outcome_words", this.placeOf("outcomes", "outcome_words", keep), events.length);
+  }
+
+  /** Opens a pool and makes all events; what came of each. */
+  start(config, events) {
+    this.begin(config);
+    return this.extend(0, events);
   }
 
   /** Forgets the events, and closes the pool. */
@@ -105,9 +163,15 @@ export class Library {
 
   /** The pool as so many events leave it. */
   go(count) {
-    const { config, events, outcomes } = this.run;
-    this.open(config);
-    this.answered(this.exports.hugepool_events(this.pool, events, BigInt(count), outcomes, BigInt(count), this.scratch));
+    const { run } = this;
+    if (count < run.at) {
+      this.open(run.config);
+      run.at = 0;
+    }
+    const more = BigInt(count - run.at);
+    const [events, outcomes] = [this.placeOf("events", "event_words", run.at), this.placeOf("outcomes", "outcome_words", run.at)];
+    if (more > 0n) this.answered(this.exports.hugepool_events(this.pool, events, more, outcomes, more, this.scratch));
+    run.at = count;
   }
 
   poolNumbers() {
@@ -146,9 +210,9 @@ export class Library {
     }
   }
 
-  /** The text that a call puts into a room that is large enough, or its code. */
-  put(call) {
-    for (let room = TEXT; ; ) {
+  /** The text that a call puts into a room that is large enough, or its code. Rooms begin with so many bytes. */
+  put(call, least = TEXT) {
+    for (let room = least; ; ) {
       const out = this.take(room);
       try {
         const code = call(out, BigInt(room), this.scratch);
@@ -162,11 +226,32 @@ export class Library {
     }
   }
 
-  /** A trace that is replayed, explained or drawn. */
-  text(name, trace) {
-    const told = this.withTrace(trace, (...bytes) => this.put((...out) => this.exports[`hugepool_${name}`](...bytes, ...out, this.beside)));
+  /** A trace that is replayed, explained or drawn; with lines, of which only these are explained. */
+  text(name, trace, ...lines) {
+    const call = this.exports[`hugepool_${name}`];
+    const told = this.withTrace(trace, (...bytes) => this.put((...out) => call(...bytes, ...lines, ...out, this.beside), TEXT));
     if (typeof told === "number") this.answered(told);
     return told;
+  }
+
+  /** The lines of JSON that explain so many events from a line on: the pool's, one an event, and the state's. An event's has some 250 bytes. */
+  objects(trace, first, count) {
+    const call = this.exports.hugepool_explain_json;
+    const told = this.withTrace(trace, (...bytes) => this.put((...out) => call(...bytes, first, LAST, ...out, this.beside), TEXT + 320 * count));
+    if (typeof told === "number") this.answered(told);
+    return told;
+  }
+
+  /** The trace that a text in the loose form asks for, as `text`; or the first wrong line, counted from 1, and why. */
+  format(loose) {
+    return this.withTrace(loose, (...bytes) => {
+      const text = this.put((...out) => this.exports.hugepool_format(...bytes, ...out, this.beside));
+      if (typeof text === "string") return { text };
+      if (text !== this.numbers.BAD_LINE) this.answered(text);
+      const line = Number(new DataView(this.exports.memory.buffer).getBigUint64(Number(this.beside), true));
+      const why = this.put((...out) => this.exports.hugepool_format_reason(...bytes, ...out));
+      return { line, why: typeof why === "string" ? why : "" };
+    });
   }
 
   /** The first line of the trace that isn't allowed, counted from 1, and why; null if all are. */

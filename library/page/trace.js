@@ -37,10 +37,12 @@ export class Words {
 
   /** The event of a line that the library's check let pass. */
   event(line) {
-    const [kind, first, op, ...more] = line.split(" ");
-    if (kind === "resize") return { kind: this.numbers.RESIZE, len: Number(first) };
-    const event = { kind: this.numbers[kind.toUpperCase()], task: Number(first) };
-    if (kind !== "begin") return event;
+    const end = line.indexOf(" ");
+    const kind = this.numbers[line.slice(0, end).toUpperCase()];
+    if (kind === this.numbers.RESIZE) return { kind, len: Number(line.slice(end + 1)) };
+    if (kind !== this.numbers.BEGIN) return { kind, task: Number(line.slice(end + 1)) };
+    const [first, op, ...more] = line.slice(end + 1).split(" ");
+    const event = { kind, task: Number(first) };
     const named = CALLS[op].map((name, place) => [name, name === "word" ? BigInt(more[place]) : Number(more[place])]);
     return { ...event, op: OPS.indexOf(op), ...Object.fromEntries(named) };
   }

@@ -4,6 +4,7 @@ from __future__ import annotations
 import copy
 import ctypes
 import gc
+import json
 import pickle
 import sys
 from pathlib import Path
@@ -90,6 +91,21 @@ def test_a_bad_line_is_told():
         hugepool.explain(trace.read_text())
     assert f"line {raised.value.line} is not allowed here" in complaint and raised.value.reason in complaint
     assert str(pickle.loads(pickle.dumps(raised.value))) == str(raised.value)
+
+
+def test_lines_are_explained_alone():
+    trace = (EXAMPLES / "two-maps-one-lock.trace").read_text()
+    objects = [json.loads(it) for it in hugepool.explain_json(trace, 5, 6).splitlines()]
+    assert [it.get("line") for it in objects] == [None, 5, 6, None] and "pool" in objects[0] and "end" in objects[-1]
+    assert len(hugepool.explain_json(trace).splitlines()) == len(trace.splitlines()) + 1
+    assert hugepool.explain_rows(trace, 5, 6).splitlines()[1].split()[0] == "5"
+
+
+def test_a_loose_text_is_a_trace():
+    assert hugepool.format("# a map\npool 4 1 4 2\n\nbegin 1 map 0 0 1\nstep 1 *2") == "pool 4 1 4 2\nbegin 1 map 0 0 1\nstep 1\nstep 1\n"
+    with pytest.raises(hugepool.BadTrace) as raised:
+        hugepool.format("pool 4 1 4 2\n# no call\nstep 1 until ended\n")
+    assert (raised.value.line, raised.value.reason) == (3, "names a step that is refused with idle")
 
 
 def test_a_page_is_mapped_stored_and_loaded():

@@ -1,11 +1,12 @@
 /* Calls that name nothing, closed pools, the largest pool, rooms that are too small, and events of random numbers: each is answered, nothing
- * that should stay changes, and an audit finds nothing. Prints what was tried.
+ * that should stay changes, and an audit finds nothing, or what was damaged. Prints what was tried.
  *
  *   misuse EVENTS SEED
  */
 #include <hugepool.h>
 
 #include <assert.h>
+#include <malloc.h>
 #include <stdio.h>
 #include <stdlib.h>
 #include <string.h>
@@ -64,7 +65,8 @@ static void no_such(void)
     hugepool_outcome_words outcome;
     for (size_t at = 0; at < sizeof bad / sizeof *bad; at++)
         assert(hugepool_open(&pool, &bad[at]) == HUGEPOOL_NO_SUCH && !pool.is_open);
-    assert(hugepool_open(&pool, &config) == HUGEPOOL_OK);
+    /* (twice: the first pool's memory is given back) */
+    assert(hugepool_open(&pool, &config) == HUGEPOOL_OK && hugepool_open(&pool, &config) == HUGEPOOL_OK);
     assert(hugepool_open(&pool, &bad[0]) == HUGEPOOL_NO_SUCH && pool.is_open);
     assert(hugepool_file_numbers(&pool, 2, &file) == HUGEPOOL_NO_SUCH && hugepool_file_numbers(&pool, 1, &file) == HUGEPOOL_OK);
     assert(hugepool_task_numbers(&pool, 0, &task) == HUGEPOOL_NO_SUCH && hugepool_task_numbers(&pool, 3, &task) == HUGEPOOL_NO_SUCH);
@@ -109,6 +111,40 @@ static void slices(void)
     hugepool_close(&pool);
 }
 
+/* An audit finds that a pool's reserve count was damaged. Where in the pool's memory it stands is found by what the pool tells of it. */
+static void damaged(void)
+{
+    hugepool_pool pool = HUGEPOOL_CLOSED;
+    hugepool_config_words config = { 4096, 1, 1, 1, 0, false };
+    hugepool_event_words events[8] = { 0 };
+    hugepool_outcome_words outcomes[8];
+    hugepool_pool_words numbers;
+    size_t done, found = 0;
+    uint32_t finding;
+    for (size_t at = 0; at < 8; at++) {
+        events[at].task = 1;
+        events[at].kind = at == 0 ? HUGEPOOL_BEGIN : HUGEPOOL_STEP;
+    }
+    events[0].op = HUGEPOOL_MAP;
+    events[0].from = 100;
+    events[0].len = 1237;
+    assert(hugepool_open(&pool, &config) == HUGEPOOL_OK && hugepool_events(&pool, events, 8, outcomes, 8, &done) == HUGEPOOL_OK);
+    assert(hugepool_pool_numbers(&pool, &numbers) == HUGEPOOL_OK && numbers.resv == 1237 && numbers.calls == 0);
+    uint32_t *cells = pool.core;
+    for (size_t at = 0; at < malloc_usable_size(pool.core) / sizeof *cells; at++) {
+        if (cells[at] != 1237)
+            continue;
+        cells[at] = 1236;
+        if (hugepool_pool_numbers(&pool, &numbers) == HUGEPOOL_OK && numbers.resv == 1236) {
+            found++;
+            assert(hugepool_audit(&pool, &finding) == HUGEPOOL_OK && finding == HUGEPOOL_FOUND_COUNT);
+        }
+        cells[at] = 1237;
+    }
+    assert(found == 1 && hugepool_audit(&pool, &finding) == HUGEPOOL_OK && finding == HUGEPOOL_FOUND_NOTHING);
+    hugepool_close(&pool);
+}
+
 /* A text wants just the room that it says; a byte less is too small, and then nothing is written. */
 static void texts(void)
 {
@@ -140,6 +176,32 @@ static void texts(void)
     assert(hugepool_reason((const uint8_t *)bad, sizeof bad - 1, 9, why, sizeof why, &needed) == HUGEPOOL_NO_SUCH);
 }
 
+/* Rows and objects of some lines are so many, and a text in the loose form is a trace; each wants just the room that it says. */
+static void parts(void)
+{
+    static const char trace[] = "pool 4 1 2 2\nbegin 1 map 0 0 4\nstep 1\nstep 1\n";
+    static const char loose[] = "# loose\npool 4 1 2 2\nbegin 1 map 0 0 4\n\nstep 1 *2";
+    static const char wrong[] = "pool 4 1 2 2\n# no event\nstop 1\n";
+    uint8_t out[4096], none = 0;
+    size_t needed, again, bad, feeds = 0;
+    uint32_t line;
+    assert(hugepool_explain_json((const uint8_t *)trace, sizeof trace - 1, 3, 3, out, sizeof out, &needed, &line) == HUGEPOOL_OK && line == 0);
+    for (size_t at = 0; at < needed; at++)
+        feeds += out[at] == '\n';
+    assert(feeds == 3 && memcmp(out, "{\"pool\":", 8) == 0); /* the pool's, that of line 3, and the state's */
+    assert(hugepool_explain_json((const uint8_t *)trace, sizeof trace - 1, 3, 3, out, needed - 1, &again, &line) == HUGEPOOL_TOO_SMALL && again == needed);
+    assert(hugepool_explain_rows((const uint8_t *)trace, sizeof trace - 1, 4, UINT32_MAX, out, sizeof out, &needed, &line) == HUGEPOOL_OK);
+    assert(hugepool_explain_rows((const uint8_t *)wrong, sizeof wrong - 1, 2, 9, out, sizeof out, &needed, &line) == HUGEPOOL_BAD_LINE && line == 2);
+    assert(hugepool_format((const uint8_t *)loose, sizeof loose - 1, &none, 0, &needed, &bad) == HUGEPOOL_TOO_SMALL && bad == 0);
+    assert(hugepool_format((const uint8_t *)loose, sizeof loose - 1, out, needed, &again, &bad) == HUGEPOOL_OK && again == needed);
+    assert(needed == sizeof trace - 1 && memcmp(out, trace, needed) == 0);
+    assert(hugepool_format_reason((const uint8_t *)loose, sizeof loose - 1, out, sizeof out, &needed) == HUGEPOOL_NO_SUCH);
+    assert(hugepool_format((const uint8_t *)wrong, sizeof wrong - 1, out, sizeof out, &needed, &bad) == HUGEPOOL_BAD_LINE && bad == 3 && needed == 0);
+    assert(hugepool_format_reason((const uint8_t *)wrong, sizeof wrong - 1, &none, 0, &needed) == HUGEPOOL_TOO_SMALL);
+    assert(hugepool_format_reason((const uint8_t *)wrong, sizeof wrong - 1, out, needed, &needed) == HUGEPOOL_OK);
+    assert(needed == 15 && memcmp(out, "is not an event", needed) == 0);
+}
+
 /* What is no line is refused, and then nothing is read; a line that is read is written once more. */
 static void lines(void)
 {
@@ -167,10 +229,10 @@ static void lines(void)
     assert(hugepool_write_event(&event, out, sizeof out, &needed) == HUGEPOOL_NO_SUCH && needed == 0);
 }
 
-/* An outcome of these numbers is written so; NULL where they name none. */
+/* An outcome of these numbers, and of the largest word, is written so; NULL where they name none. */
 static void is_written(uint32_t kind, uint32_t number, const char *line)
 {
-    hugepool_outcome_words outcome = { 0, kind, number, number, number, number, number, number };
+    hugepool_outcome_words outcome = { UINT64_MAX, kind, number, number, number, number, number, number };
     char out[HUGEPOOL_LINE_ROOM];
     size_t needed;
     uint32_t code = hugepool_write_outcome(&outcome, out, sizeof out, &needed);
@@ -187,6 +249,7 @@ static void outcomes(void)
     is_written(HUGEPOOL_MOVED, 28, NULL);
     is_written(HUGEPOOL_BLOCKED, 4294967295, "blocked 4294967295");
     is_written(HUGEPOOL_ENDED, 1, "ended mapped 1");
+    is_written(HUGEPOOL_ENDED, 2, "ended word 18446744073709551615");
     is_written(HUGEPOOL_ENDED, 14, "ended noaddress");
     is_written(HUGEPOOL_ENDED, 0, NULL);
     is_written(HUGEPOOL_ENDED, 15, NULL);
@@ -251,7 +314,9 @@ int main(int count, char **words)
     no_such();
     largest();
     slices();
+    damaged();
     texts();
+    parts();
     lines();
     outcomes();
     random_events(strtol(words[1], NULL, 10));

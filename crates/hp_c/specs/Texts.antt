@@ -1,12 +1,19 @@
 -- What an export answers of the text of a trace.
-use Rattle.std.specs.Prelude.{◌≡◌, ◌⊎◌, ◌<◌, ℕ, List, [], drop, length, take, Option, Some}
+use Rattle.std.specs.Prelude.{◌≡◌, ◌⊎◌, ◌<◌, ◌-◌, ◌^◌, ℕ, List, [], drop, length, take, true, false, Option, Some}
+use Rattle.hp_base.specs.Text.{Sizes}
+use Rattle.hp_base.specs.declared.event.Event.{Event}
+use Rattle.hp_format.specs.Loose.{ReadsRun, ReadsWrong}
+use Rattle.hp_format.specs.declared.fault.LooseFault.{LooseFault}
+use Rattle.hp_format.specs.declared.fault.LooseFault.TheVariants.{Stream, Line}
 use Rattle.hp_replay.specs.Replaying.{Replayed}
-use Rattle.hp_text.specs.Traces.{BeginsNoHeader, HasBadLine, IsLineFault}
+use Rattle.hp_text.specs.Traces.{BeginsNoHeader, HasBadLine, IsLineFault, trace_text}
 use Rattle.hp_text.specs.declared.fault.ReplayFault.{ReplayFault}
 use Rattle.hp_text.specs.declared.fault.ReplayFault.TheVariants as fault
 use Rattle.hp_text.specs.Checking.{ReadsEvents}
 use Rattle.hp_explain.specs.Explaining.{Explained}
+use Rattle.hp_explain.specs.JsonRuns.{ExplainedJson}
 use Rattle.hp_explain.specs.Views.{whole_view}
+use Rattle.hp_explain.specs.declared.view.View.{View}
 use Rattle.hp_draw.specs.Drawing.{IsDrawing}
 use Rattle.hp_c.specs.Codes.{bad_header, bad_line, no_memory, no_such, ok, too_small}
 
@@ -17,6 +24,18 @@ Replays bytes text = (left : Option (List ℕ)) × Replayed (Some bytes) left (S
 -- the text explains it
 abbrev pub Explains : (bytes text : List ℕ) → Type 0
 Explains bytes text = (left : Option (List ℕ)) × Explained whole_view (Some bytes) left (Some []) (Some text)
+
+-- the events of these lines: all in one column, with Linux's functions, and each wait in a line of its own
+abbrev pub rows_view : (first last : ℕ) → View
+rows_view first last = record { first = first; last = last; tasks = 0; linux = true; compact = true }
+
+-- the text explains them, and where they end
+abbrev pub ExplainsRows : (first last : ℕ) → (bytes text : List ℕ) → Type 0
+ExplainsRows first last bytes text = (left : Option (List ℕ)) × Explained (rows_view first last) (Some bytes) left (Some []) (Some text)
+
+-- the text explains them in lines of JSON
+abbrev pub ExplainsJson : (first last : ℕ) → (bytes text : List ℕ) → Type 0
+ExplainsJson first last bytes text = (left : Option (List ℕ)) × ExplainedJson (rows_view first last) (Some bytes) left (Some []) (Some text)
 
 -- the text is its picture
 abbrev pub Draws : (bytes text : List ℕ) → Type 0
@@ -81,3 +100,30 @@ IsReasonPut old new needed = (text : List ℕ) × (needed ≡ length text) × Is
 abbrev pub IsReasonKept : (room needed code : ℕ) → Type 0
 IsReasonKept room needed code =
     (code ≡ too_small) × (room < needed) ⊎ (code ≡ no_memory) × (needed ≡ 0) ⊎ (code ≡ no_such) × (needed ≡ 0)
+
+-- the text is the trace that the bytes ask for in the loose form
+pub record Formats (bytes text : List ℕ) : Type 0 where
+  pub sizes : Sizes
+  pub events : List Event
+  pub left : Option (List ℕ)
+  pub reads : ReadsRun (Some bytes) left sizes events
+  pub is : text ≡ trace_text sizes events
+
+-- the code and the line by which a fault of such bytes is told
+abbrev pub LooseCodes : LooseFault → (code line : ℕ) → Type 0
+LooseCodes (Stream why) code line = (code ≡ no_memory) × (line ≡ 0)
+LooseCodes (Line n why) code line = (code ≡ bad_line) × (line ≡ n)
+
+-- a fault that they may have
+abbrev pub HasLooseFault : (bytes : List ℕ) → LooseFault → Type 0
+HasLooseFault bytes (Stream why) = Unit {0}
+HasLooseFault bytes (Line n why) = (left : Option (List ℕ)) × ReadsWrong (Some bytes) left n why
+
+-- they have one, which is told, or there was no memory
+abbrev pub IsLooselyFaulty : (bytes : List ℕ) → (code line : ℕ) → Type 0
+IsLooselyFaulty bytes code line = (fault : LooseFault) × HasLooseFault bytes fault × LooseCodes fault code line
+
+-- no trace is shown: the room is too small, the bytes have a fault, or there was no memory
+abbrev pub NotFormatted : (bytes : List ℕ) → (room needed code line : ℕ) → Type 0
+NotFormatted bytes room needed code line =
+    (code ≡ too_small) × IsTooLong (Formats bytes) room needed line ⊎ (needed ≡ 0) × IsLooselyFaulty bytes code line

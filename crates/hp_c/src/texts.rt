@@ -66,7 +66,7 @@ pub(crate) fn put(text: &[u8], out: &mut [u8]) -> bool
 }
 
 /// Tells a text, or the fault for which there is none.
-fn tell(
+pub(crate) fn tell(
     text: Result<Vec<u8>, ReplayFault>,
     out: &mut [u8],
     needed: &mut usize,

@@ -22,7 +22,7 @@ from hugepool._errors import BadTrace, Closed, Error, InFlight, NoSuch, OutOfMem
 from hugepool._events import begin, deny, events, kill, parse, resize, step
 from hugepool._library import library_version
 from hugepool._pool import Pool
-from hugepool._traces import check, draw, explain, replay
+from hugepool._traces import check, draw, explain, explain_json, explain_rows, format, replay
 from hugepool._words import (
     Acquired, AcquiredKind, Answer, Event, EventKind, FileNumbers, Finding, Life, Op, Outcome, OutcomeKind, Phase, PoolNumbers, Refusal,
     TaskNumbers,
@@ -32,5 +32,5 @@ __version__ = "0.1.0"
 __all__ = [
     "Acquired", "AcquiredKind", "Answer", "BadTrace", "Closed", "Error", "Event", "EventKind", "FileNumbers", "Finding", "InFlight", "Life",
     "NoSuch", "Op", "OutOfMemory", "Outcome", "OutcomeKind", "Phase", "Pool", "PoolNumbers", "Refusal", "TaskNumbers", "begin", "check",
-    "deny", "draw", "events", "explain", "kill", "library_version", "parse", "replay", "resize", "step",
+    "deny", "draw", "events", "explain", "explain_json", "explain_rows", "format", "kill", "library_version", "parse", "replay", "resize", "step",
 ]

@@ -20,6 +20,8 @@ def _bytes(trace: str | bytes) -> bytes:
 # An explanation or a picture has some 60 bytes for each of its trace. What is made of one in a room that is too small is made once more;
 # a room that is too large takes no memory, until it is written to.
 _LEAST, _TIMES, _MOST = 1 << 16, 80, 1 << 28
+# behind all lines
+_LAST = (1 << 32) - 1
 
 
 def _put(call: Callable[..., int], room: int, *words: object) -> tuple[int, str]:
@@ -41,10 +43,10 @@ def _refuse(data: bytes, code: int, line: int) -> None:
     raise BadTrace(line, why if told == OK else "nothing more can be told")
 
 
-def _text(export: Callable[..., int], trace: str | bytes) -> str:
+def _text(export: Callable[..., int], trace: str | bytes, *lines: int) -> str:
     data, line = _bytes(trace), c_uint32()
     room = min(_LEAST + _TIMES * len(data), _MOST)
-    code, text = _put(lambda *it: export(data, len(data), *it), room, byref(line))
+    code, text = _put(lambda *it: export(data, len(data), *lines, *it), room, byref(line))
     if code:
         _refuse(data, code, line.value)
     return text
@@ -58,6 +60,27 @@ def replay(trace: str | bytes) -> str:
 def explain(trace: str | bytes) -> str:
     """A row of words for each event of the trace, and then the state."""
     return _text(_library.explain, trace)
+
+
+def explain_rows(trace: str | bytes, first: int = 2, last: int = _LAST) -> str:
+    """The rows of the trace's lines from first to last, all in one column and with Linux's functions, and then the state behind the last."""
+    return _text(_library.explain_rows, trace, first, last)
+
+
+def explain_json(trace: str | bytes, first: int = 2, last: int = _LAST) -> str:
+    """The same in lines of JSON: an object of the pool, one of each event of these lines, and one of the state behind the last."""
+    return _text(_library.explain_json, trace, first, last)
+
+
+def format(loose: str | bytes) -> str:
+    """The trace that a text in the loose form asks for, which has comments, blank lines, and steps that are repeated."""
+    data, line = _bytes(loose), c_size_t()
+    code, text = _put(lambda *it: _library.format_trace(data, len(data), *it), _LEAST, byref(line))
+    if code == BAD_LINE:
+        raise BadTrace(line.value, _put(lambda *it: _library.format_reason(data, len(data), *it), _LEAST)[1])
+    if code:
+        raise error_of(code)
+    return text
 
 
 def draw(trace: str | bytes) -> str:

@@ -24,7 +24,7 @@ pub use event::{Event, NoEvent, Op};
 pub use hugepool_sys::{AcquiredWords, EventWords, FileWords, OutcomeWords, PoolWords, TaskWords};
 pub use outcome::{Outcome, ANSWERS, PHASES, REFUSALS};
 pub use pool::{Fault, Pool, Sizes};
-pub use texts::{check, draw, explain, replay, BadTrace};
+pub use texts::{check, draw, explain, explain_json, explain_rows, format, replay, BadTrace};
 
 /// The version of the library that is linked, as 1,000,000 times its first number, 1,000 times its second, and its third.
 pub fn library_version() -> u32 {

@@ -69,6 +69,38 @@ pub fn explain(trace: &[u8]) -> Result<String, BadTrace> {
     text(sys::hugepool_explain, trace)
 }
 
+type ExportOfLines = unsafe extern "C" fn(*const u8, usize, u32, u32, *mut u8, usize, *mut usize, *mut u32) -> u32;
+
+fn text_of_lines(export: ExportOfLines, trace: &[u8], first: u32, last: u32) -> Result<String, BadTrace> {
+    let mut line = 0;
+    // SAFETY: the trace and the room are there, and apart.
+    let made = put(|out, room, needed| unsafe { export(trace.as_ptr(), trace.len(), first, last, out, room, needed, &mut line) });
+    made.map(|words| String::from_utf8_lossy(&words).into_owned()).map_err(|code| bad(trace, code, line))
+}
+
+/// The rows of the trace's lines from first to last, all in one column and with Linux's functions, and then the state behind the last.
+pub fn explain_rows(trace: &[u8], first: u32, last: u32) -> Result<String, BadTrace> {
+    text_of_lines(sys::hugepool_explain_rows, trace, first, last)
+}
+
+/// The same in lines of JSON: an object of the pool, one of each event of these lines, and one of the state behind the last.
+pub fn explain_json(trace: &[u8], first: u32, last: u32) -> Result<String, BadTrace> {
+    text_of_lines(sys::hugepool_explain_json, trace, first, last)
+}
+
+/// The trace that a text in the loose form asks for, which has comments, blank lines, and steps that are repeated.
+pub fn format(loose: &[u8]) -> Result<String, BadTrace> {
+    let mut line = 0;
+    // SAFETY: the text and the room are there, and apart.
+    let made = put(|out, room, needed| unsafe { sys::hugepool_format(loose.as_ptr(), loose.len(), out, room, needed, &mut line) });
+    made.map(|words| String::from_utf8_lossy(&words).into_owned()).map_err(|_| {
+        // SAFETY: the same.
+        let told = put(|out, room, needed| unsafe { sys::hugepool_format_reason(loose.as_ptr(), loose.len(), out, room, needed) });
+        let reason = told.map_or_else(|_| "there was no memory".to_string(), |words| String::from_utf8_lossy(&words).into_owned());
+        BadTrace { line: u32::try_from(line).unwrap_or(u32::MAX), reason }
+    })
+}
+
 /// A picture of the trace, an SVG.
 pub fn draw(trace: &[u8]) -> Result<String, BadTrace> {
     text(sys::hugepool_draw, trace)

@@ -1,0 +1,122 @@
+// The trace as a text: typed, copied, opened, saved, and in an address.
+
+// Firefox takes an address of so many characters; Chrome takes twice as many
+const MOST_ADDRESS = 1_000_000;
+// no trace of an address or a file has more bytes
+const MOST_BYTES = 16_000_000;
+const SAYING = 6000;
+
+let typing = 0;
+let saying = 0;
+
+function say(text) {
+  $("said").textContent = text;
+  clearTimeout(saying);
+  saying = setTimeout(() => ($("said").textContent = ""), SAYING);
+}
+
+/** What can't be done, or was read otherwise than it was asked for. */
+function tell(why) {
+  $("notice").hidden = why === "";
+  $("notice").textContent = why;
+}
+
+// ---- typing
+
+/** The text in its field, while somebody looks at it. */
+function showText() {
+  if ($("editing").open && document.activeElement !== $("text")) $("text").value = textOf(trace.lines);
+}
+
+/** Takes what is typed once no key is pressed for a while, and what is pasted at once. */
+function typed(event) {
+  clearTimeout(typing);
+  typing = setTimeout(() => takeText($("text").value), event.inputType === "insertFromPaste" ? 0 : 200);
+}
+
+async function copyText(text, done) {
+  try {
+    await navigator.clipboard.writeText(text);
+    say(done);
+  } catch {
+    $("editing").open = true;
+    $("text").value = text;
+    $("text").select();
+    say("It is selected in the field below: copy it from there.");
+  }
+}
+
+// ---- files
+
+async function openFile() {
+  const [file] = $("file").files;
+  $("file").value = "";
+  if (!file) return;
+  if (file.size > MOST_BYTES) return tell(`${file.name} has more than ${MOST_BYTES.toLocaleString("en")} bytes.`);
+  takeText(await file.text());
+}
+
+function saveAs(name, text, type) {
+  const to = element("a", { href: URL.createObjectURL(new Blob([text], { type })), download: name });
+  to.click();
+  setTimeout(() => URL.revokeObjectURL(to.href), 60_000);
+}
+
+const nameOf = (kind) => `${example || "own"}.${kind}`;
+
+// ---- addresses
+
+/** What of the address leads to the trace: an example's name, or all of the trace, and behind an empty line the calls of its script. */
+async function placeName() {
+  if (script.size > 0) return PACKED_SCRIPT + (await pack([textOf(trace.lines), textOf([...script.values()].flat())].join("\n")));
+  return example || PACKED + (await pack(textOf(trace.lines)));
+}
+
+const addressOf = async () => `${location.href.split("#")[0]}#${await placeName()}@${at}`;
+
+async function copyAddress() {
+  const address = await addressOf();
+  if (address.length > MOST_ADDRESS) {
+    return tell(`The link would have ${address.length.toLocaleString("en")} characters, and browsers take ${MOST_ADDRESS.toLocaleString("en")}: save a file instead.`);
+  }
+  history.replaceState(null, "", address);
+  return copyText(address, "The link is copied; it also stands in the address.");
+}
+
+/** A trace of an address, and the script behind its empty line. */
+async function takePacked({ packed, isScript, place }) {
+  try {
+    const text = await unpack(packed, MOST_BYTES);
+    const end = isScript ? text.lastIndexOf("\n\n") + 1 : text.length;
+    takeText(text.slice(0, end), place, scriptOf(linesOf(text.slice(end))));
+  } catch (error) {
+    chooseExample(FIRST_EXAMPLE);
+    tell(`The trace in the address can't be read: ${error.message}.`);
+  }
+}
+
+/** Shows what the address asks for. */
+async function followAddress() {
+  const asked = readAddress(location.hash);
+  if (asked.name && $(asked.name)) return;
+  if (asked.packed !== undefined) await takePacked(asked);
+  else {
+    const isKnown = data.examples.some((it) => it.name === asked.name);
+    chooseExample(isKnown ? asked.name : FIRST_EXAMPLE, isKnown ? asked.place : Infinity);
+    tell(isKnown || !asked.name ? "" : `No example is named "${asked.name}".`);
+  }
+  if (asked.place !== Infinity && asked.place > trace.count) tell(`The trace has ${plural(trace.count, "event")}, so none is behind ${asked.place} of them.`);
+  if (asked.why) tell(asked.why);
+}
+
+function listenToFiles() {
+  $("copy").onclick = () => copyText(textOf(trace.lines), "copied");
+  $("link").onclick = copyAddress;
+  $("open").onclick = () => $("file").click();
+  $("file").onchange = openFile;
+  $("save").onclick = () => saveAs(nameOf("trace"), textOf(trace.lines), "text/plain");
+  $("save-picture").onclick = () => saveAs(nameOf("svg"), library.text("draw", soFar(trace.count)), "image/svg+xml");
+  $("text").oninput = typed;
+  $("editing").ontoggle = showText;
+  window.addEventListener("hashchange", followAddress);
+}

@@ -1,0 +1,78 @@
+// Lists of thousands of rows, of which the page has those in sight. All rows of a list have one height.
+
+// so many rows above and below those in sight are there, too
+const OVER = 8;
+
+/** A list in a box that scrolls. `make` makes the row of a place. With `picks` rows can be picked, by a click and by keys. */
+function newRows(scroller, height, make, picks) {
+  const room = element("div", { className: "rows", role: "presentation" });
+  const list = { scroller, room, height, make, count: 0, at: -1, rows: new Map(), mark: picks ? "aria-selected" : "aria-current" };
+  scroller.replaceChildren(room);
+  scroller.addEventListener("scroll", () => fillRows(list), { passive: true });
+  new ResizeObserver(() => fillRows(list)).observe(scroller);
+  if (picks) {
+    room.addEventListener("click", (event) => picks(Math.floor((event.clientY - room.getBoundingClientRect().top) / height)));
+    scroller.addEventListener("keydown", (event) => moveRows(list, event, picks));
+  }
+  return list;
+}
+
+function makeRow(list, place) {
+  const row = list.make(place);
+  row.id = `${list.scroller.id}-${place}`;
+  row.style.top = `${place * list.height}px`;
+  if (place === list.at) row.setAttribute(list.mark, "true");
+  row.classList.toggle("is-behind", place > list.at);
+  list.rows.set(place, row);
+  return row;
+}
+
+/** Makes the rows that come into sight, and takes the others away. */
+function fillRows(list) {
+  const { scroller, height, count, rows, room } = list;
+  const from = Math.max(0, Math.floor(scroller.scrollTop / height) - OVER);
+  const to = Math.min(count, Math.ceil((scroller.scrollTop + scroller.clientHeight) / height) + OVER);
+  for (const [place, row] of rows) {
+    if (place >= from && place < to) continue;
+    row.remove();
+    rows.delete(place);
+  }
+  const made = [];
+  for (let place = from; place < to; place++) if (!rows.has(place)) made.push(makeRow(list, place));
+  room.append(...made);
+}
+
+/** The list has so many rows, and those from one on are others than before. */
+function setRows(list, count, from = 0) {
+  list.count = count;
+  for (const [place, row] of list.rows) {
+    if (place < from) continue;
+    row.remove();
+    list.rows.delete(place);
+  }
+  list.room.style.height = `${count * list.height}px`;
+  fillRows(list);
+}
+
+/** Marks a row, and brings it into sight. */
+function markRow(list, place) {
+  const { scroller, height } = list;
+  list.rows.get(list.at)?.removeAttribute(list.mark);
+  list.at = place;
+  if (place * height < scroller.scrollTop) scroller.scrollTop = place * height;
+  const below = (place + 1) * height - scroller.clientHeight;
+  if (below > scroller.scrollTop) scroller.scrollTop = below;
+  fillRows(list);
+  for (const [other, row] of list.rows) row.classList.toggle("is-behind", other > place);
+  list.rows.get(place)?.setAttribute(list.mark, "true");
+  if (list.mark === "aria-selected") scroller.setAttribute("aria-activedescendant", `${scroller.id}-${place}`);
+}
+
+/** Moves the mark by keys. */
+function moveRows(list, event, picks) {
+  const screen = Math.max(1, Math.floor(list.scroller.clientHeight / list.height) - 1);
+  const steps = { ArrowUp: -1, ArrowLeft: -1, ArrowDown: 1, ArrowRight: 1, PageUp: -screen, PageDown: screen, Home: -list.count, End: list.count };
+  if (!Object.hasOwn(steps, event.key) || event.altKey || event.ctrlKey || event.metaKey) return;
+  event.preventDefault();
+  picks(Math.min(Math.max(list.at + steps[event.key], 0), list.count - 1));
+}

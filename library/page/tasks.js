@@ -1,0 +1,198 @@
+// A card for each task: its call, for whom it waits and since when, and what it may do next.
+
+// pools with more tasks than these show those alone that do something, and fold those that wait for one thing
+const FEW_TASKS = 6;
+
+const cards = new Map();
+/** Each fold of tasks that wait for one thing, by whom and what they wait for. */
+const folds = new Map();
+let showsAll = false;
+
+function button(text, does, properties = {}) {
+  return element("button", { type: "button", textContent: text, onclick: does, ...properties });
+}
+
+/** A button that is off stays where it is for the keyboard, and does nothing. */
+function setOff(it, isOff) {
+  if (isOff) it.setAttribute("aria-disabled", "true");
+  else it.removeAttribute("aria-disabled");
+}
+
+const isOff = (it) => it.getAttribute("aria-disabled") === "true";
+
+const TURNS = {
+  step: "Its call makes one step",
+  deny: "Its call makes one step, and memory that the step wants is refused, as if the kernel had none",
+  kill: "It is killed: its call notices at the next step that looks for signals",
+};
+
+function cardOf(task) {
+  const parts = {
+    life: element("span"),
+    call: element("p", { className: "call" }),
+    waits: element("p", { className: "waits" }),
+    linux: element("p", { className: "linux soft" }),
+    blocks: element("p", { className: "blocks soft" }),
+    seen: element("p", { className: "soft" }),
+    next: button("", () => append(nextOf(task)), { className: "go" }),
+  };
+  for (const [kind, title] of Object.entries(TURNS)) {
+    parts[kind] = button(kind, () => append(`${kind} ${task}`), { className: { step: "go", kill: "kill" }[kind] ?? "", title });
+    parts[kind].setAttribute("aria-label", `${kind} task ${task}`);
+  }
+  const title = element("h3", {}, `Task ${task}`, parts.life);
+  const buttons = element("div", { className: "buttons" }, parts.step, parts.deny, parts.kill, parts.next);
+  parts.root = element("article", { className: "task" }, title, parts.call, parts.linux, parts.waits, parts.blocks, parts.seen, buttons);
+  parts.root.setAttribute("aria-label", `Task ${task}`);
+  return parts;
+}
+
+/** The call that a script has the task begin next, if there is one. */
+function nextOf(task) {
+  return script.get(task)?.[countBelow(trace.begins.get(task) ?? [], at)];
+}
+
+/** The call that the task began last, in words. */
+function callOf(task) {
+  const places = trace.begins.get(task) ?? [];
+  for (let it = countBelow(places, at) - 1; it >= 0; it--) {
+    if (trace.outcomes[places[it]] === "begun") return trace.lines[places[it] + 1].split(" ").slice(2).join(" ");
+  }
+  return "";
+}
+
+function wantedBy(task) {
+  const { kind, file, index } = library.acquires(task);
+  return kind === library.numbers.ACQUIRES_LOCK ? `lock of file ${file}` : `slot of index ${index} of file ${file}`;
+}
+
+/** Whom a task waits for, whom that one waits for, and so on: it ends at a call that goes on. */
+function chainOf(task, tasks) {
+  const parts = [];
+  for (let it = task; tasks.get(it).is_blocked; it = tasks.get(it).holder) parts.push(`waits for task ${tasks.get(it).holder}: ${wantedBy(it)}`);
+  return parts.join("; which ");
+}
+
+/** Since which event the task waits, as a link there. */
+function sinceOf(task) {
+  const lane = view.run.laneOf.get(task);
+  const wait = lane ? waitAt(view.run, lane, at - 1) : null;
+  if (!wait) return [];
+  const to = button(`line ${lineOf(wait.since)}`, () => pick(wait.since), { className: "link", title: "Shows the moment behind that line" });
+  return [", since ", to];
+}
+
+function showCall(card, task, { phase, is_blocked }) {
+  const word = words.phases[phase];
+  const call = callOf(task);
+  const isInCall = phase !== library.numbers.PHASE_NONE;
+  card.call.replaceChildren(...(isInCall ? [`${call} in `, element("b", { textContent: word, title: PHASES[word] })] : ["no call in flight"]));
+  card.linux.textContent = isInCall ? `next: ${PHASES[word]} (Linux: ${functionOf(view.run, call.split(" ", 1)[0], word) || data.linux[word]})` : "";
+  card.linux.hidden = !isInCall || is_blocked;
+}
+
+function showCard(task, tasks) {
+  const { life, phase, is_blocked, mappings, entries } = tasks.get(task);
+  const card = cards.get(task);
+  const isInCall = phase !== library.numbers.PHASE_NONE;
+  const isDead = life === library.numbers.LIFE_DEAD;
+  const blocked = [...tasks].filter(([, it]) => it.is_blocked && it.holder === task).map(([it]) => it);
+  const next = isInCall || isDead ? undefined : nextOf(task);
+  card.root.className = `task${is_blocked ? " is-blocked" : ""}${isDead ? " is-dead" : ""}`;
+  card.life.textContent = card.life.className = words.lives[life];
+  showCall(card, task, tasks.get(task));
+  card.waits.replaceChildren(...(is_blocked ? [chainOf(task, tasks), ...sinceOf(task)] : []));
+  card.waits.hidden = !is_blocked;
+  card.blocks.textContent = `holds back ${blocked.length > FEW_WAITS ? `${blocked.length} tasks` : `task${blocked.length === 1 ? "" : "s"} ${blocked.join(", ")}`}`;
+  card.blocks.hidden = blocked.length === 0;
+  card.seen.textContent = `${plural(mappings, "mapping")}, ${plural(entries, "translated page")}`;
+  for (const it of [card.step, card.deny]) setOff(it, !isInCall || is_blocked);
+  setOff(card.kill, life !== library.numbers.LIFE_ALIVE);
+  card.next.textContent = next ?? "";
+  card.next.hidden = next === undefined;
+  card.step.hidden = card.deny.hidden = next !== undefined;
+}
+
+/** The tasks that the trace or the script names. */
+function namedTasks() {
+  return new Set([...script.keys(), ...trace.begins.keys(), ...view.run.laneOf.keys()]);
+}
+
+// ---- folds
+
+/** The tasks that wait, by whom and what they wait for. */
+function waitingOf(numbers, tasks) {
+  const groups = new Map();
+  for (const task of numbers) {
+    if (!tasks.get(task).is_blocked) continue;
+    const key = `wait for task ${tasks.get(task).holder}: ${wantedBy(task)}`;
+    groups.set(key, [...(groups.get(key) ?? []), task]);
+  }
+  return new Map([...groups].filter(([, list]) => list.length > FEW_WAITS));
+}
+
+function foldOf(key) {
+  const parts = { summary: element("summary"), inside: element("div", { className: "tasks" }), key };
+  parts.root = element("details", { className: "fold", ontoggle: () => showTasks() }, parts.summary, parts.inside);
+  return parts;
+}
+
+/** Puts elements into a place; one that stays there keeps the focus of what is in it. */
+function put(place, elements) {
+  const isSame = elements.length === place.children.length && elements.every((it, at) => place.children[at] === it);
+  if (!isSame) place.replaceChildren(...elements);
+}
+
+function showCards(numbers, tasks) {
+  for (const it of numbers) {
+    if (!cards.has(it)) cards.set(it, cardOf(it));
+    showCard(it, tasks);
+  }
+  return numbers.map((it) => cards.get(it).root);
+}
+
+function showFold(key, list, tasks) {
+  if (!folds.has(key)) folds.set(key, foldOf(key));
+  const fold = folds.get(key);
+  fold.summary.textContent = `${list.length} ${key}`;
+  put(fold.inside, fold.root.open ? showCards(list, tasks) : []);
+  return fold.root;
+}
+
+/** All tasks of the pool, by their numbers. */
+function allTasks() {
+  const { tasks } = library.poolNumbers();
+  return new Map(Array.from({ length: tasks }, (_, place) => [place + 1, library.task(place + 1)]));
+}
+
+function showTasks(tasks = allTasks()) {
+  const count = tasks.size;
+  const named = namedTasks();
+  const picked = [...tasks.keys()].filter((it) => showsAll || count <= FEW_TASKS || named.has(it));
+  const groups = count > FEW_TASKS ? waitingOf(picked, tasks) : new Map();
+  const folded = new Set([...groups.values()].flat());
+  put($("tasks"), showCards(picked.filter((it) => !folded.has(it)), tasks));
+  put($("folds"), [...groups].map(([key, list]) => showFold(key, list, tasks)));
+  $("more").hidden = count <= FEW_TASKS || (!showsAll && picked.length === count);
+  $("more").textContent = showsAll ? "show only tasks of the trace" : `show ${plural(count - picked.length, "more task")}, alive and idle`;
+  const behind = trace.lines.length - at - 1;
+  $("replaces").hidden = behind === 0;
+  $("replaces").textContent = `A turn here replaces the ${plural(behind, "line")} behind this moment.`;
+  setOff($("chance"), turnsOf(tasks).length === 0);
+}
+
+// ---- turns
+
+/** The events that may come next of tasks that aren't blocked. */
+function turnsOf(tasks) {
+  return [...tasks].flatMap(([task, { life, phase, is_blocked }]) => {
+    if (phase !== library.numbers.PHASE_NONE) return is_blocked ? [] : [`step ${task}`];
+    const next = life === library.numbers.LIFE_DEAD ? undefined : nextOf(task);
+    return next === undefined ? [] : [next];
+  });
+}
+
+function takeChance() {
+  const found = turnsOf(allTasks());
+  append(found[Math.floor(Math.random() * found.length)]);
+}
