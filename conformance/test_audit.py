@@ -9,6 +9,7 @@ from __future__ import annotations
 import copy
 import json
 import struct
+import subprocess
 import sys
 import tempfile
 from dataclasses import replace
@@ -18,16 +19,16 @@ from typing import Callable, Iterator
 from unittest.mock import ANY, patch
 
 import packages
-from audit import pictures
+from audit import pictures, scenes
 from compare import Script, tested
 from kernel.audit import checks, elf, opened, picture, proved, report, who
 from kernel.audit.behind import Audited, read
 from kernel.audit.checks import CLAUSES, check, wrong
 from kernel.audit.owed import FUNCTIONS, KINDS, ORDER, kind_of
 from kernel.audit.state import Call, File, Frame, Mapping, Mount, Pool, ReserveMap, State, Subpool, reserved_in, used_in
-from kernel.known import known_issues
+from kernel.known import Known, known_issues
 from kernel.problem import Problem
-from kernel.testing import wrong_audits
+from kernel.testing import wrong_audits, wrong_counts
 
 
 def healthy() -> State:
@@ -386,8 +387,27 @@ def cases_of_races() -> Iterator[tuple[str, bool]]:
     leaked = [replace(AUDIT, has=1), replace(AUDIT, findings=[], has=0)]
     yield "race: a leak that is gone behind the next race", [it.known for it in wrong_audits([twice], known, leaked)] == [None]
     yield "race: an audit is missing", raises(lambda: wrong_audits([fine], known, []), Problem)
+    yield from cases_of_forced(fine, known)
     yield "what is owed is no finding", read(read_of(with_error(count(resv=4), "fault"))).findings == []
     yield "an audit is read", read(read_of(with_error(count(resv=4)))) == Audited([("reserve", ANY)], 4, 5, 0, [])
+    giant = healthy()
+    giant.pools[0].name = "1048576kB"
+    yield "an audit of pages of 1 GiB is read", read(read_of(giant), 1 << 20) == Audited([], 5, 5, 0, [])
+    yield "a pool that isn't there is one line", raises(lambda: read(read_of(giant)), Problem)
+
+
+def cases_of_forced(raced: Script, known: list[Known]) -> Iterator[tuple[str, bool]]:
+    """Scripts whose calls are forced: with audits behind races, too, each is judged by its counts and answers."""
+    end = "begin 1 trunc 0 0 = done | 4 0 | 0 0 | 0"
+    right = Script("f", "pool 4 1 4 2", ["hold region_add 1 store 0 5 = held", "wait 1 = done | 3 0 | 1 1 | 1", end])
+    odd = replace(right, lines=[right.lines[0], "wait 1 = noframe | 4 0 | 1 0 | 0", end])
+    lost = replace(right, lines=[*right.lines[:2], end.replace("4 0", "4 -1")])
+    both = replace(odd, lines=[raced.lines[0].replace("4 0", "4 -1"), *odd.lines[:2], end.replace("4 0", "4 -1")])
+    yield "forced: right", wrong_audits([right], known, []) == []
+    yield "forced: an answer that no kernel may give", [it.known for it in wrong_audits([odd], known, [])] == [None]
+    yield "forced: a wrong count", [it.known for it in wrong_audits([lost], known, [])] == [None]
+    yield "forced: an odd answer beside a race that lost one", [it.known for it in wrong_audits([both], known, [AUDIT])] == [None]
+    yield "forced: the same without audits", [it.known for it in wrong_counts([both], known)] == [None]
 
 
 def read_of(state: State, **more: object) -> dict:
@@ -427,6 +447,16 @@ def cases_of_drgn() -> Iterator[tuple[str, bool]]:
         yield "no drgn is one line", raises(opened.need_drgn, Problem)
 
 
+def cases_of_guests(room: Path) -> Iterator[tuple[str, bool]]:
+    """What audit/live.py takes into a guest is all that an audit imports there."""
+    scenes.add_sources(room)
+    words = [sys.executable, "-B", "-m", "kernel", "audit", "--core", "none", "--without-symbols"]
+    at = room / "kirvessa"
+    ran = subprocess.run(words, cwd=at, env={"PATH": "/bin", "PYTHONPATH": str(at / "conformance")}, capture_output=True, text=True, check=False)
+    said = "kernel: --without-symbols looks at this machine's /proc and /sys, and not at a dump\n"
+    yield "an audit begins in a guest", (ran.returncode, ran.stdout, ran.stderr) == (2, "", said)
+
+
 def all_cases(room: Path) -> Iterator[tuple[str, bool]]:
     yield from cases_of_checks()
     yield from cases_of_owed()
@@ -439,6 +469,7 @@ def all_cases(room: Path) -> Iterator[tuple[str, bool]]:
     yield from cases_of_who()
     yield from cases_of_races()
     yield from cases_of_drgn()
+    yield from cases_of_guests(room)
 
 
 def main() -> int:

@@ -115,23 +115,29 @@ def endings(program: Program, file: Path) -> tuple[set[str], set[str]]:
 EXPECTATIONS = ((SCRIPTS, EXPECTED), (SCRIPTS_OF_QUOTAS, EXPECTED_OF_QUOTAS), (SCRIPTS_OF_RESIZES, EXPECTED_OF_RESIZES))
 
 
-# what a kernel may say of a load that finds no mapping, and the status that this brings
-STATUSES = {"segv": 0, "done": 1}
+# what a kernel may say of a load that finds no mapping, in a pool from which a resize took a frame, and the status that this brings
+STATUSES = {
+    "segv | 1 0 | 0 0 | 0 | total 1 surplus 0": 0,
+    "done | 1 0 | 0 0 | 0 | total 1 surplus 0": 1,
+    "segv | 2 0 | 0 0 | 0 | total 1 surplus 0": 1,
+    "segv | 1 0 | 0 0 | 0 | total 2 surplus 0": 1,
+}
 
 
-def status_of(answer: str) -> int:
-    """With which status a file is compared in which a kernel answers a load so."""
+def status_of(said: str) -> int:
+    """With which status a file is compared in which a kernel says that of a load."""
+    resized = "resize 1 = resized 1 | 1 0 | 0 0 | 0 | total 1 surplus 0"
     with tempfile.TemporaryDirectory(prefix="compare-") as name, contextlib.redirect_stdout(io.StringIO()):
         file = Path(name, "file")
-        file.write_text(f"script a\npool 1 1 1 1\nbegin 1 load 0 = {answer} | 1 0 | 0 0 | 0\nend\n", encoding="utf-8")
+        file.write_text(f"script a\npool 2 1 1 1\n{resized}\nbegin 1 load 0 = {said}\nend\n", encoding="utf-8")
         return compare.main([file])
 
 
 def faults() -> Iterator[str]:
     """What the comparison doesn't tell, or tells where nothing is."""
-    for answer, status in STATUSES.items():
-        if (found := status_of(answer)) != status:
-            yield f"where a kernel answers {answer} the status is {found}"
+    for said, status in STATUSES.items():
+        if (found := status_of(said)) != status:
+            yield f"where a kernel says {said} the status is {found}"
     for (task, page), place in PLACES.items():
         if (found := compare.place_of(CALLS, task, page)) != place:
             yield f"page {page} of task {task} is reckoned to show {found}, and shows {place}"

@@ -104,6 +104,17 @@ CASES = (
     Case("a map takes a frame", NEW_KERNEL, ("pool 2 1 4 1", "begin 1 map 0 0 1 = mapped 0 | 1 1 | 1 0 | 0"), "new"),
     Case("want of frames without a quota is done", NEW_KERNEL, ("pool 1 1 4 1", "begin 1 alloc 0 0 2 = done | 0 0 | 2 1 | 0"), "new"),
 )
+# from the second call on the kernel lacks a page and its frame: the third differs by that, the fifth by its answer; then bytes are asked for
+SPOILED = (
+    "pool 4 1 4 1",
+    "begin 1 alloc 0 0 1 = done | 3 0 | 1 1 | 0",
+    "begin 1 alloc 0 1 1 = done | 3 0 | 2 1 | 0",
+    "begin 1 alloc 0 2 1 = done | 2 0 | 3 2 | 0",
+    "begin 1 trunc 0 0 = done | 4 0 | 0 0 | 0",
+    "begin 1 alloc 0 0 1 = noframe | 4 0 | 0 0 | 0",
+    "begin 1 xload 0 = errno EINVAL",
+    "begin 1 trunc 0 0 = done | 3 0 | 0 0 | 0",
+)
 VERSIONS = {
     "# 7.3-cloud-amd64 #1 SMP PREEMPT_DYNAMIC Debian 7.3~rc7-1~exp1 (2026-10-16)": "7.3~rc7",
     "# 6.1.0-56-cloud-amd64 #1 SMP PREEMPT_DYNAMIC Debian 6.1.192-2 (2026-11-16)": "6.1.192",
@@ -223,9 +234,23 @@ def faults_of_known() -> Iterator[tuple[str, object]]:
         yield what, race_ending(kinds, reserved, beside) == ends or race_ending(kinds, reserved, beside)
     yield from faults_of_rules()
     yield from faults_of_translation()
+    yield from faults_of_spoiled()
     for told, why in BAD_FILES:
         found = faults({**KNOWN_TEXTS, **told})
         yield why, found[:1] == [why] or found
+
+
+def faults_of_spoiled() -> Iterator[tuple[str, object]]:
+    """Which later calls a difference spoils, and what of them is told."""
+    version, answered = parsed(recording(Case("", NEW_KERNEL, SPOILED, "")))
+    found = Comparison(PROGRAM, version, known_issues()).result(answered[0]).difference
+    later = [(3, "begin 1 alloc 0 2 1"), (5, "begin 1 alloc 0 0 1")]
+    yield "the first call that differs", (found.number, found.known) == (2, None) or (found.number, found.known)
+    yield "later calls that differ", found.spoiled == later or found.spoiled
+    told = [report.spoiled_text(replace(found, spoiled=it)) for it in ([], later, later * 3)]
+    said = ["no later call of the script", "3 (1 alloc 0 2 1), 5 (1 alloc 0 0 1)"]
+    said.append(f"{said[1]}, {said[1]}, 3 (1 alloc 0 2 1), and 1 more")
+    yield "what is told of them", told == said or told
 
 
 def faults_of_rules() -> Iterator[tuple[str, object]]:

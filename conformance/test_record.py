@@ -7,16 +7,20 @@ Files that are no records, `NO_RECORDS`, are told by what reads records.
 """
 from __future__ import annotations
 
+import io
 import os
 import re
 import shutil
 import subprocess
 import sys
 import tempfile
+from contextlib import redirect_stdout
 from pathlib import Path
 from typing import Iterator
+from unittest.mock import patch
 
 import generate
+import races
 
 FOLDER = Path(__file__).resolve().parent
 POOL = "script a\npool 4 1 4 2\n"
@@ -187,10 +191,21 @@ NO_RECORDS = [
 # scripts of races, each with its kinds and the counts at its end; and what races.py says of them, with its status
 RACED = [
     ([("mns", "4 0")], 0, "wrong in 0 of 1 scripts without truncations, in 0 of 0 with them\n"),
-    ([("mns", "4 0"), ("mns", "4 1")], 1, "wrong in 1 of 2 scripts without truncations, in 0 of 0 with them\n  file: b: the counts are wrong: "),
+    ([("mns", "4 0"), ("mns", "4 1")], 1, "wrong in 1 of 2 scripts without truncations, in 0 of 0 with them\n  file: 2: the counts are wrong: "),
     ([("mns", "3 0")], 1, "wrong in 1 of 1 scripts without truncations"),
     ([("mst", "4 -1"), ("mns", "4 0"), ("", "4 0")], 0, "wrong in 0 of 1 scripts without truncations, in 1 of 2 with them\n"),
 ]
+# in how many scripts of each record of races the count is wrong (docs/NEEDED.md)
+WRONG = {"races.txt": 1, "races-by-chance.txt": 21, "races-by-kind.txt": 2}
+
+
+def raced_text(raced: list[tuple[str, str]]) -> str:
+    """A file with a script of one race for each of these kinds and counts at its end."""
+    return "".join(
+        f"script {number}\npool 4 1 4 2\nrace {' '.join(['1', '9', '4', *kinds.split()])} = rest | 4 0 | 0 0 | 0 0\n"
+        f"begin 1 trunc 0 0 = done | {counts} | 0 0 | 0 0\nend x\n"
+        for number, (kinds, counts) in enumerate(raced, 1)
+    )
 
 
 def faults_of_races() -> Iterator[tuple[object, object]]:
@@ -198,13 +213,28 @@ def faults_of_races() -> Iterator[tuple[object, object]]:
     with tempfile.TemporaryDirectory(prefix="races-") as name:
         file = Path(name, "file")
         for raced, status, said in RACED:
-            scripts = zip("abc", raced)
-            file.write_text("".join(
-                f"script {it}\npool 4 1 4 2\nrace 1 9 4 {kinds} = rest | 4 0 | 0 0 | 0 0\nbegin 1 trunc 0 0 = done | {counts} | 0 0 | 0 0\nend x\n"
-                for it, (kinds, counts) in scripts
-            ).replace("4  =", "4 ="))
+            file.write_text(raced_text(raced))
             ended, out, err = outcome("races.py", file)
             yield raced, (ended, out.startswith(f"file: {said}"), err) == (status, True, "") or (ended, out, err)
+
+
+def faults_of_counts() -> Iterator[tuple[object, object]]:
+    """That as many scripts of this folder's records are wrong as the documents tell, and neither one more nor one fewer."""
+    for name in (None, *WRONG):
+        for more in (-1, 1) if name else (0,):
+            status, out = told_of_records({it: number + more * (it == name) for it, number in WRONG.items()})
+            fault = f"  {name}: the count is to be wrong in {WRONG[name]}\nraces: 5 passed, 1 failed\n" if name else ""
+            said = fault or "\nraces: 6 passed, 0 failed\n"
+            yield f"{more} in {name}", (status, out.endswith(said)) == (int(more != 0), True) or (status, out)
+
+
+def told_of_records(wrong: dict[str, int]) -> tuple[int, str]:
+    """What races.py says, and its status, where so many scripts with truncations are wrong in each of its records."""
+    said = io.StringIO()
+    with tempfile.TemporaryDirectory(prefix="records-") as name, patch.object(races, "FOLDER", Path(name)), redirect_stdout(said):
+        for record, number in wrong.items():
+            Path(name, record).write_text(raced_text([("mst", "4 -1")] * number + [("mst", "4 0"), ("mns", "4 0")]))
+        return races.main([]), said.getvalue()
 
 
 def faults_of_files() -> Iterator[tuple[object, object]]:
@@ -242,7 +272,8 @@ def main() -> int:
         recorder = Recorder(Path(name))
         tried = [("it compiles with no warning", recorder.is_built and not recorder.warnings or recorder.warnings)]
         if recorder.is_built:
-            tried += [*faults_of_reading(recorder), *faults_of_making(recorder), *faults_of_kinds(), *faults_of_races(), *faults_of_files()]
+            tried += [*faults_of_reading(recorder), *faults_of_making(recorder), *faults_of_kinds()]
+            tried += [*faults_of_races(), *faults_of_counts(), *faults_of_files()]
     wrong = [(what, found) for what, found in tried if found is not True]
     print("".join(f"  {what!r}: {found}\n" for what, found in wrong), end="")
     print(f"recorder: {len(tried) - len(wrong)} passed, {len(wrong)} failed")

@@ -16,8 +16,8 @@ import sys
 import tempfile
 from pathlib import Path
 
-from scenes import add_libraries, add_program, parser as scene_parser, running
-from table import PACKAGES, TOP
+from scenes import add_libraries, add_program, add_sources, parser as scene_parser, running
+from table import PACKAGES
 from kernel import kernels
 from kernel.audit.command import symbols_of
 from kernel.problem import Problem
@@ -46,10 +46,7 @@ def guest(symbols: Path, room: Path) -> Path:
         (tree / path.parent.relative_to("/")).mkdir(parents=True, exist_ok=True)
         shutil.copy(path, tree / path.relative_to("/"))
         add_libraries(tree, path)
-    for name in ("kernel", "audit"):
-        shutil.copytree(TOP / "conformance" / name, tree / "kirvessa" / "conformance" / name, ignore=shutil.ignore_patterns("__pycache__"))
-    for path in (TOP / "conformance").glob("*.py"):
-        shutil.copy(path, tree / "kirvessa" / "conformance" / path.name)
+    add_sources(tree)
     (tree / "tmp").mkdir()
     shutil.copy(symbols, tree / symbols.name)
     return tree

@@ -21,9 +21,11 @@ from pathlib import Path
 from typing import Iterator
 
 HERE = Path(__file__).resolve().parent
+TOP = HERE.parent.parent
 sys.path.insert(0, str(HERE.parent))
 
 from kernel.audit.emulated import Monitor  # noqa: E402
+from kernel.kernels import WITH_US  # noqa: E402
 from kernel.problem import Problem  # noqa: E402
 
 INIT = """#!/bin/sh
@@ -84,6 +86,14 @@ def add_libraries(root: Path, of: Path, source: Path = Path("/")) -> None:
         shutil.copy(source / path[1:], root / path[1:])
 
 
+def add_sources(root: Path) -> None:
+    """Puts all Python of this folder's parent into a guest's /kirvessa: a command of ./kernel imports what the others need."""
+    for path in TOP.glob("conformance/**/*.py"):
+        to = root / "kirvessa" / path.relative_to(TOP)
+        to.parent.mkdir(parents=True, exist_ok=True)
+        shutil.copy(path, to)
+
+
 def wait_for(text: str, console: Path, machine: subprocess.Popen[bytes], seconds: float) -> None:
     end = time.monotonic() + seconds
     while text not in console.read_text(errors="replace"):
@@ -106,7 +116,7 @@ def booted(options: argparse.Namespace, room: Path) -> subprocess.Popen[bytes]:
     initramfs, console = packed(options, room), room / "console"
     for attempt in range(3):
         console.write_bytes(b"")
-        machine = subprocess.Popen(command(options, initramfs, console, room / "monitor"), stdin=subprocess.DEVNULL)
+        machine = subprocess.Popen([*WITH_US, *command(options, initramfs, console, room / "monitor")], stdin=subprocess.DEVNULL)
         try:
             wait_for("scene: begun", console, machine, max(BOOT, options.seconds / 5))
             return machine
@@ -167,7 +177,7 @@ def parser() -> argparse.ArgumentParser:
     words.add_argument("--length", type=int, default=0, metavar="MIB", help="dumps so much of the first memory alone")
     words.add_argument("--append", default="")
     words.add_argument("--cpus", type=int, default=2)
-    words.add_argument("--cpu", default="max,-erms")
+    words.add_argument("--cpu", default="max,-erms,-cx16")
     words.add_argument("--qemu", default="", metavar="WORDS", help="more words for QEMU")
     words.add_argument("--accel", default="tcg")
     words.add_argument("--seconds", type=int, default=300)

@@ -163,8 +163,9 @@ def run_test(options: argparse.Namespace) -> int:
     symbols = audit_symbols(options) if options.audit else None
     answering, kernel = machine(options.program), kernel_of(options)
     most = options.race_calls or (RACE_CALLS if kernel.is_slow else None)
-    work = [Work(it.name, suites.scripts_of(it), it.has_races, peer_scripts() if it.name == suites.PEERS else [], most, symbols) for it in chosen]
-    work += [Work(name, some, suites.has_races(some), [], most, symbols) for name, some in files]
+    races = most, symbols, options.page
+    work = [Work(it.name, suites.scripts_of(it), it.has_races, peer_scripts() if it.name == suites.PEERS else [], *races) for it in chosen]
+    work += [Work(name, some, suites.has_races(some), [], *races) for name, some in files]
     run = Running(options, answering.basis, len(work))
     try:
         for number, it in enumerate(work, 1):

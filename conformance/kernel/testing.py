@@ -15,7 +15,7 @@ from compare import Script, scripts
 from kernel.audit.behind import Audited, Behind
 from kernel.console import Ended
 from kernel.differences import Comparison, Result
-from kernel.kernels import Kernel, Look, Recording, say
+from kernel.kernels import PAGE, Kernel, Look, Recording, say
 from kernel.known import Known, race_rule
 from kernel.machine import Machine
 from kernel.peers import broken_by
@@ -190,6 +190,8 @@ class Work:
     most_calls: int | None = None
     # of races: the symbols by which the machine is audited behind each
     symbols: Path | None = None
+    # the size of the huge pages that are used, in KiB
+    page: int = PAGE
 
     def asked(self) -> list[Script]:
         """The scripts as they are made."""
@@ -249,7 +251,7 @@ class Following:
 def tested(kernel: Kernel, machine: Machine, known: list[Known], work: Work, news: Callable[[Tested], None] = lambda _: None, is_first: bool = False) -> Tested:
     """What one suite shows; what is new is passed on as soon as it is seen."""
     began = time.monotonic()
-    behind = Behind(work.symbols) if work.symbols and work.has_races else None
+    behind = Behind(work.symbols, work.page) if work.symbols and work.has_races else None
     following = Following(Comparison(machine.program, "", known), work, news, is_first)
     asked = work.asked()
     version, answered, recording = recorded(kernel, work.name, asked, work.has_races, behind, following.look)
@@ -308,9 +310,14 @@ def compared(comparison: Comparison, answered: list[Script]) -> list[Result]:
 
 
 def wrong_counts(answered: list[Script], known: list[Known]) -> list[WrongCount]:
-    """The scripts of races at whose end the counts are wrong."""
-    odd = {it.name: tuple(forced.oddities(it)) for it in answered if forced.has_force(it)}
-    return [wrong_count(it, rule_of(it, known), odd.get(it.name, ())) for it in answered if not races.is_right(it) or odd.get(it.name)]
+    """The scripts of races at whose end the counts are wrong, and those of forced calls whose answers are: no known issue explains these."""
+    found = [(it, oddities_of(it)) for it in answered]
+    return [wrong_count(it, None if odd else rule_of(it, known), odd) for it, odd in found if odd or not races.is_right(it)]
+
+
+def oddities_of(script: Script) -> tuple[str, ...]:
+    """What a script has against its kernel beside wrong counts, if its calls are forced."""
+    return tuple(forced.oddities(script)) if forced.has_force(script) else ()
 
 
 def wrong_count(script: Script, known: Known | None, findings: tuple[str, ...] = ()) -> WrongCount:
@@ -339,9 +346,15 @@ def wrong_audits(answered: list[Script], known: list[Known], audits: list[Audite
     """The scripts of races that are wrong by their counts, or by an audit behind one of their races."""
     if (number := sum(len(race_calls([it])) for it in answered)) != len(audits):
         raise Problem(f"{number} races were made, and {len(audits)} dumps audited")
-    left = iter(audits)
-    found = [(it, [next(left) for _ in race_calls([it])]) for it in answered]
-    return [wrong_audit(it, known, its) for it, its in found if not races.is_right(it) or any(one.findings for one in its)]
+    left, wrong = iter(audits), []
+    for it in answered:
+        its = [next(left) for _ in race_calls([it])]
+        # (the machine stops behind races alone: a script that has none is judged as without audits)
+        if not its:
+            wrong += wrong_counts([it], known)
+        elif not races.is_right(it) or oddities_of(it) or any(one.findings for one in its):
+            wrong.append(wrong_audit(it, known, its))
+    return wrong
 
 
 def wrong_audit(script: Script, known: list[Known], audits: list[Audited]) -> WrongCount:
@@ -352,4 +365,5 @@ def wrong_audit(script: Script, known: list[Known], audits: list[Audited]) -> Wr
     last, end = audits[-1], races.rests(script)[-1].resv
     if end != (due := last.has - last.should + last.unmarked):
         leaks.append(f"at the end the reserve count is {end}, and by the last audit it should be {due}")
-    return wrong_count(script, None if leaks else rule_of(script, known, clauses), (*leaks, *findings))
+    new = (*leaks, *oddities_of(script))
+    return wrong_count(script, None if new else rule_of(script, known, clauses), (*new, *findings))

@@ -166,8 +166,7 @@ has_begun() { grep -q '^record: \|^reproducer: ' "$work/told"; }
 is_unbegun() { [ "$ended" = 0 ] || [ "$ended" = hung ] && ! has_begun; }
 
 # Boots a machine in which the recorder runs with these words. A kernel that stops or hangs before it runs the recorder is booted again,
-# twice at most: emulated, Linux 6.12 panics in one of four boots or so while it patches its own text (do_sync_core), and now and then
-# one hangs. Behind the first call nothing is tried again.
+# twice at most: emulated, one now and then stops or hangs for a fault of the emulator. Behind the first call nothing is tried again.
 boot() {
     local attempt
     for attempt in 1 2; do
@@ -199,12 +198,13 @@ await_machine() {
 }
 
 # (Whatever ends this program, the machine ends with it, by setpriv. Where rep stosb is announced as fast (erms), the kernel clears pages with it, and an emulated processor is slow at that: without it a
-# race takes a third of the time. The console has warnings, too, a kernel that oopses stops, and a task that hangs for a minute is
+# race takes a third of the time. Emulated by QEMU 7.2, cmpxchg16b now and then leaves garbage in the flags, at which 6.12 stops in
+# __kmalloc: without it (cx16) the kernel has another way. The console has warnings, too, a kernel that oopses stops, and a task that hangs for a minute is
 # reported; a kernel without these numbers says so, and goes on.) What is recorded is in $work/recorded then, what the recorder told in $work/told, what the kernel told in $work/console.
 boot_once() {
     local stopping=() staying=() console="ttyS0 no_timer_check" machine_words=() lines=() asked=null
     if [ "$(arch_of "$kernel")" = x86_64 ]; then
-        machine_words=(qemu-system-x86_64 -machine pc -cpu max,-erms)
+        machine_words=(qemu-system-x86_64 -machine pc -cpu max,-erms,-cx16)
         lines=(-serial file:"$work/recorded" -serial file:"$work/told" ${is_staying:+-serial "unix:$work/asked,server=on,wait=off"})
     else
         # (its own line is ttyAMA0; those of the card are ttyS0 to ttyS3)

@@ -68,7 +68,9 @@ void ask_for_frames(long frames)
 
 void ask_for_overcommit(long frames)
 {
-    write_count(FOLDER "nr_overcommit_hugepages", frames);
+    /* (of pages of 1 GiB the kernel has none, and refuses to be asked) */
+    if (read_count(FOLDER "nr_overcommit_hugepages") != frames)
+        write_count(FOLDER "nr_overcommit_hugepages", frames);
 }
 
 static bool has_hugetlbfs(void)

@@ -12,6 +12,7 @@ from typing import Iterator
 
 from compare import TOP
 from kernel.audit.emulated import Monitor
+from kernel.kernels import PAGE
 from kernel.problem import Problem
 
 # how often it is looked whether the machine stands still, in seconds
@@ -30,15 +31,17 @@ class Audited:
     calls: list[str]
 
 
-def read(told: dict) -> Audited:
+def read(told: dict, page: int = PAGE) -> Audited:
     """The audit's JSON, of the one pool that the scripts use. Where two audits differ, one of them is wrong, and not the kernel."""
     if told["compared"]["differences"]:
         raise Problem("; ".join(told["compared"]["differences"]))
-    pool = next(it for it in told["state"]["pools"] if it["name"] == "2048kB")
+    pool = next((it for it in told["state"]["pools"] if it["name"] == f"{page}kB"), None)
+    if pool is None:
+        raise Problem(f"the kernel has no huge pages of {page} KiB")
     files = [file for mount in told["state"]["mounts"] if mount["pool"] == pool["number"] for file in mount["files"]]
     outside = sum(not any(begin <= int(index) < to for begin, to in it["map"]["regions"]) for it in files for index in it["cache"])
     findings = [(it["clause"], it["text"]) for it in told["findings"] if not it["owed"]]
-    return Audited(findings, pool["counts"]["resv"], told["recomputed"]["2048kB"]["all"], outside, [it["sign"] for it in told["state"]["calls"]])
+    return Audited(findings, pool["counts"]["resv"], told["recomputed"][pool["name"]]["all"], outside, [it["sign"] for it in told["state"]["calls"]])
 
 
 @dataclass
@@ -46,6 +49,7 @@ class Behind:
     """Audits of one suite, in the order of its races."""
 
     symbols: Path
+    page: int = PAGE
     audits: list[Audited] = field(default_factory=list)
     problem: Problem | None = None
 
@@ -90,18 +94,18 @@ class Behind:
         dump = room / "dump"
         try:
             monitor.dump(dump)
-            self.audits.append(audit_of(dump, self.symbols))
+            self.audits.append(audit_of(dump, self.symbols, self.page))
         except (OSError, ValueError, LookupError, Problem) as why:
             self.problem = self.problem or Problem(f"the audit behind race {len(self.audits) + 1}: {why}")
         finally:
             dump.unlink(missing_ok=True)
 
 
-def audit_of(dump: Path, symbols: Path) -> Audited:
+def audit_of(dump: Path, symbols: Path, page: int) -> Audited:
     """Audits a dump in a process of its own, since drgn may be there for another Python alone."""
     said = dump.with_suffix(".json")
     command = [TOP / "kernel", "audit", "--core", dump, "--vmlinux", symbols, "--json", said]
     ran = subprocess.run(command, capture_output=True, text=True, check=False)
     if ran.returncode not in (0, 1):
         raise Problem(ran.stderr.strip().removeprefix("kernel: "))
-    return read(json.loads(said.read_text(encoding="utf-8")))
+    return read(json.loads(said.read_text(encoding="utf-8")), page)
