@@ -20,7 +20,7 @@
  * beside them says (a count of 0 wants a pointer, too); two of them don't overlap; a bool is 0 or 1.
  *
  * What each call promises is proved, but for this (docs/LIBRARY.md says of what it is proved, and what is trusted):
- * - what the words of hugepool_reason say, and of which lines it knows any;
+ * - what the words of hugepool_reason and hugepool_format_reason say, and of which lines the first knows any;
  * - that memory is wanting where a call says so other than hugepool_event and hugepool_events;
  * - that memory is given back: by hugepool_close, by a call that opens or copies into a pool that was open, and by any call that fails.
  *   That is tested, with sanitizers.

@@ -4,6 +4,7 @@ use Rattle.hp_base.specs.Text.{Sizes}
 use Rattle.hp_base.specs.declared.event.Event.{Event}
 use Rattle.hp_format.specs.Loose.{ReadsRun, ReadsWrong}
 use Rattle.hp_format.specs.declared.fault.LooseFault.{LooseFault}
+use Rattle.hp_format.specs.declared.fault.Reason.{Reason}
 use Rattle.hp_format.specs.declared.fault.LooseFault.TheVariants.{Stream, Line}
 use Rattle.hp_replay.specs.Replaying.{Replayed}
 use Rattle.hp_text.specs.Traces.{BeginsNoHeader, HasBadLine, IsLineFault, trace_text}
@@ -108,6 +109,20 @@ pub record Formats (bytes text : List ℕ) : Type 0 where
   pub left : Option (List ℕ)
   pub reads : ReadsRun (Some bytes) left sizes events
   pub is : text ≡ trace_text sizes events
+
+-- they are read as a trace, so no line is wrong
+abbrev pub HasNoWrongLine : (bytes : List ℕ) → Type 0
+HasNoWrongLine bytes = (s : Sizes) × (events : List Event) × (left : Option (List ℕ)) × ReadsRun (Some bytes) left s events
+
+-- a line of theirs is wrong
+abbrev pub HasWrongLine : (bytes : List ℕ) → Type 0
+HasWrongLine bytes = (n : ℕ) × (why : Reason) × (left : Option (List ℕ)) × ReadsWrong (Some bytes) left n why
+
+-- no reason is put for such bytes: the room is too small for it, there was no memory, or no line is wrong
+abbrev pub IsLooseReasonKept : (bytes : List ℕ) → (room needed code : ℕ) → Type 0
+IsLooseReasonKept bytes room needed code =
+    (code ≡ too_small) × (room < needed) × HasWrongLine bytes
+    ⊎ (code ≡ no_memory) × (needed ≡ 0) ⊎ (code ≡ no_such) × (needed ≡ 0) × HasNoWrongLine bytes
 
 -- the code and the line by which a fault of such bytes is told
 abbrev pub LooseCodes : LooseFault → (code line : ℕ) → Type 0

@@ -1,12 +1,12 @@
 //! Traces as people write them: with comments, and steps that are repeated.
-ghost use Rattle.std.specs.Prelude.{◌≡◌, ◌⊎◌, ⊤, IfOk, IfErr, length};
+ghost use Rattle.std.specs.Prelude.{◌≡◌, ◌⊎◌, ⊤, IfOk, IfErr, OnOk, length};
 ghost use Rattle.hp_c.specs.Answers.{Answered};
 ghost use Rattle.hp_c.specs.Codes.{no_memory, no_such};
-ghost use Rattle.hp_c.specs.Texts.{Formats, HasLooseFault, IsReasonKept, IsReasonPut, LooseCodes, NotFormatted, Shown};
+ghost use Rattle.hp_c.specs.Texts.{Formats, HasLooseFault, HasNoWrongLine, HasWrongLine, IsLooseReasonKept, IsReasonPut, LooseCodes, NotFormatted, Shown};
 
 use crate::codes::{BAD_LINE, NO_MEMORY, NO_SUCH, OK, TOO_SMALL};
 use crate::texts::put;
-use hp_format::{LooseFault, read_loose};
+use hp_format::{LooseFault, Reason, read_loose};
 use hp_replay::Watched;
 use hp_text::write_trace;
 use std::alloc::Global;
@@ -66,18 +66,29 @@ pub extern "C" fn hugepool_format(
     }
 }
 
-/// What is wrong with the text, or the code for which that isn't known.
-fn loose_reason(alloc: Global, text: &[u8]) -> Result<String, u32>
-    ensures { IfErr result (λ code. (code ≡ no_memory) ⊎ (code ≡ no_such)) }
+/// The words of a reason.
+fn reason_words(alloc: Global, why: Reason) -> Result<String, u32>
+    ensures { IfErr result (λ code. code ≡ no_memory) }
 {
-    let mut source = text;
-    let Err(LooseFault::Line(_, why)) = read_loose(alloc, &mut source) else {
-        return Err(NO_SUCH);
-    };
     let mut words = String::new(alloc);
     match write!(words, "{why}") {
         Ok(()) => Ok(words),
         Err(_) => Err(NO_MEMORY),
+    }
+}
+
+/// What is wrong with the text, or the code for which that isn't known.
+fn loose_reason(alloc: Global, text: &[u8]) -> Result<String, u32>
+    ensures wrong { OnOk result (HasWrongLine text.now) }
+    ensures err { IfErr result (λ code. (code ≡ no_memory) ⊎ (code ≡ no_such) × HasNoWrongLine text.now) }
+{
+    let mut source = text;
+    let Err(fault) = read_loose(alloc, &mut source) else {
+        return Err(NO_SUCH);
+    };
+    match fault {
+        LooseFault::Stream(_) => Err(NO_MEMORY),
+        LooseFault::Line(_, why) => reason_words(alloc, why),
     }
 }
 
@@ -89,8 +100,8 @@ pub extern "C" fn hugepool_format_reason(
     out: &mut [u8],
     needed: &mut usize,
 ) -> u32
-    ensures put { Answered result (IsReasonPut out.old out.new needed.new) (out.new ≡ out.old) }
-    ensures code { Answered result ⊤ (IsReasonKept (length out.old) needed.new result) }
+    ensures put { Answered result (IsReasonPut out.old out.new needed.new × HasWrongLine text.now) (out.new ≡ out.old) }
+    ensures code { Answered result ⊤ (IsLooseReasonKept text.now (length out.old) needed.new result) }
 {
     *needed = 0;
     match loose_reason(alloc, text) {
