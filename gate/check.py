@@ -55,6 +55,8 @@ GROUPS = {
         Script("gate/examples.py"),
         Script("gate/showing.py"),
         Script("gate/states.py"),
+        Script("gate/stepping.py"),
+        Script("gate/objects.py", ("jsonschema",)),
         Script("gate/test_launcher.py"),
         Script("gate/documents.py --shown"),
         Script("bench/fuzz.sh 10 1", ("cargo",)),
@@ -70,17 +72,19 @@ GROUPS = {
 }
 # the commands that scripts need, each with its Debian package; without the first nothing runs
 PACKAGES = {"rt": None, "git": "git", "find": "findutils", "cc": "gcc libc6-dev"}
-PACKAGES |= {"cargo": "cargo", "node": "nodejs", "pytest": "python3-pytest"}
+PACKAGES |= {"cargo": "cargo", "node": "nodejs", "pytest": "python3-pytest", "jsonschema": "python3-jsonschema"}
+# (modules, and the python that has to have them)
+MODULES = {"pytest": "/usr/bin/python3", "jsonschema": "python3"}
 COUNTS = re.compile(r"^(?:[\w ]+: )?(\d+) passed, (\d+) failed$", re.M)
 # (without a network apt-get gives up soon)
 QUICKLY = ("-o", "Acquire::Retries=0", "-o", "Acquire::http::Timeout=10")
 
 
 def lacking() -> list[str]:
-    """The commands that aren't there; CC may name another C compiler. (pytest is a module of Debian's python.)"""
+    """The commands and modules that aren't there; CC may name another C compiler."""
     found = {it: shutil.which(shlex.split(os.environ.get("CC", "cc"))[0] if it == "cc" else it) for it in PACKAGES}
-    imported = subprocess.run(["/usr/bin/python3", "-c", "import pytest"], stderr=subprocess.DEVNULL)
-    found["pytest"] = found["pytest"] or imported.returncode == 0
+    for it, python in MODULES.items():
+        found[it] = found[it] or subprocess.run([python, "-c", f"import {it}"], stderr=subprocess.DEVNULL).returncode == 0
     return [it for it in PACKAGES if not found[it]]
 
 

@@ -19,14 +19,14 @@ sys.path.append(str(TOP / "launcher"))
 WORDS = {
     "trace": (
         *("replay", "replay --json", "replay --picture", "explain", "explain --compact --linux --tasks 1 --lines 2..3"),
-        *("explain --json --lines 2..3", "draw", "draw --html", "check", "format", "minimize --final resv=0 --anywhere", "step"),
+        *("explain --json --lines 2..3", "draw", "draw --html", "check", "check --json", "format", "minimize --final resv=0 --anywhere", "step"),
     ),
     "script": (
         *("explore --runs 2", "explore --summary --runs 2", "schedule", "race --times 2", "race --trace"),
-        *("find --final resv=1", "find --every --final resv=1"),
+        *("find --final resv=1", "find --every --final resv=1", "explore --every --json", "find --json --final resv=1", "race --json --times 2"),
     ),
-    "picture": ("audit",),
-    "": ("work readback", "work readback --trace", "--help"),
+    "picture": ("audit", "audit --json"),
+    "": ("work readback", "work readback --json", "work readback --trace", "--help"),
 }
 
 

@@ -19,6 +19,24 @@ pub(crate) const REPLAY_JSON: Choice = Choice {
     needs: &[],
 };
 
+pub(crate) const OBJECTS: Choice = Choice {
+    name: "json",
+    form: "",
+    takes: Takes::Nothing,
+    help: "Prints a JSON object instead of each line, and one before them that names the version of their form",
+    conflicts: &[],
+    needs: &[],
+};
+
+pub(crate) const LOOSE_FORM: Choice = Choice {
+    name: "loose",
+    form: "",
+    takes: Takes::Nothing,
+    help: "Reads the form that hugepool format reads: comments, blank lines, repeated steps; reads the whole input first",
+    conflicts: &[],
+    needs: &[],
+};
+
 pub(crate) const PICTURE: Choice = Choice {
     name: "picture",
     form: "",

@@ -37,7 +37,7 @@ const REPLAY: Row = Row {
     usage: "hugepool replay [OPTIONS] [FILE]",
     told: TRACES,
     operand: Operand::File,
-    choices: &[REPLAY_JSON, PICTURE, COLOR],
+    choices: &[REPLAY_JSON, PICTURE, LOOSE_FORM, COLOR],
 };
 
 pub(crate) const EXPLAIN: Row = Row {
@@ -46,7 +46,7 @@ pub(crate) const EXPLAIN: Row = Row {
     usage: "hugepool explain [OPTIONS] [FILE]",
     told: TRACES,
     operand: Operand::File,
-    choices: &[LINES, TASKS, LINUX, COMPACT, JSON, COLOR],
+    choices: &[LINES, TASKS, LINUX, COMPACT, JSON, LOOSE_FORM, COLOR],
 };
 
 const DRAW: Row = Row {
@@ -55,7 +55,7 @@ const DRAW: Row = Row {
     usage: "hugepool draw [OPTIONS] [FILE]",
     told: TRACES,
     operand: Operand::File,
-    choices: &[HTML],
+    choices: &[HTML, LOOSE_FORM],
 };
 
 pub(crate) const EXPLORE: Row = Row {
@@ -65,17 +65,18 @@ pub(crate) const EXPLORE: Row = Row {
     told: SCRIPTS,
     operand: Operand::File,
     choices: &[
-        SEED, RUNS, DENY, KILL, AUDIT, SUMMARY, ALL, DENIALS, KILLS, STATES, COLOR,
+        SEED, RUNS, DENY, KILL, AUDIT, SUMMARY, ALL, DENIALS, KILLS, STATES, OBJECTS, LOOSE_FORM,
+        COLOR,
     ],
 };
 
 const CHECK: Row = Row {
     name: "check",
     about: "Counts the events of a trace",
-    usage: "hugepool check [FILE]",
+    usage: "hugepool check [OPTIONS] [FILE]",
     told: TRACES,
     operand: Operand::File,
-    choices: &[],
+    choices: &[OBJECTS, LOOSE_FORM],
 };
 
 pub(crate) const SCHEDULE: Row = Row {
@@ -84,7 +85,9 @@ pub(crate) const SCHEDULE: Row = Row {
     usage: "hugepool schedule [OPTIONS] [FILE]",
     told: SCRIPTS,
     operand: Operand::File,
-    choices: &[SEED, RUN, DENY, KILL, ENDING, DENIALS, KILLS, STATES],
+    choices: &[
+        SEED, RUN, DENY, KILL, ENDING, DENIALS, KILLS, STATES, OBJECTS, LOOSE_FORM,
+    ],
 };
 
 pub(crate) const FIND: Row = Row {
@@ -95,22 +98,24 @@ pub(crate) const FIND: Row = Row {
     operand: Operand::File,
     choices: &[
         ANSWER, AT, BLOCKED, MEET, FINAL, REST, ANYWHERE, LIMIT, SEED, DENY, KILL, EVERY, DENIALS,
-        KILLS, STATES,
+        KILLS, STATES, OBJECTS, LOOSE_FORM,
     ],
 };
 
 pub(crate) const MINIMIZE: Row = Row {
     name: "minimize",
     about: "Prints a small trace that still meets all conditions",
-    usage: "hugepool minimize CONDITION.. [FILE]",
+    usage: "hugepool minimize CONDITION.. [OPTIONS] [FILE]",
     told: MINIMIZES,
     operand: Operand::File,
-    choices: &[ANSWER, AT, BLOCKED, MEET, FINAL, REST, ANYWHERE],
+    choices: &[
+        ANSWER, AT, BLOCKED, MEET, FINAL, REST, ANYWHERE, OBJECTS, LOOSE_FORM,
+    ],
 };
 
 const FORMAT: Row = Row {
     name: "format",
-    about: "Prints the strict form of a trace that has comments or repeated steps",
+    about: "Prints the strict form of a trace or script that has comments or repeated steps",
     usage: "hugepool format [FILE]",
     told: LOOSE,
     operand: Operand::File,
@@ -120,10 +125,10 @@ const FORMAT: Row = Row {
 const AUDIT_STATE: Row = Row {
     name: "audit",
     about: "Audits a pool's state: prints all that is wrong with it, also with a kernel's",
-    usage: "hugepool audit [FILE]",
+    usage: "hugepool audit [OPTIONS] [FILE]",
     told: PICTURES,
     operand: Operand::File,
-    choices: &[],
+    choices: &[OBJECTS],
 };
 
 const STEP: Row = Row {
@@ -141,7 +146,9 @@ pub(crate) const RACE: Row = Row {
     usage: "hugepool race [OPTIONS] [FILE]",
     told: RACES,
     operand: Operand::File,
-    choices: &[TIMES, SEED, DENY, RACE_KILL, CUT, RACE_TRACE, COLOR],
+    choices: &[
+        TIMES, SEED, DENY, RACE_KILL, CUT, RACE_TRACE, OBJECTS, LOOSE_FORM, COLOR,
+    ],
 };
 
 const WORK: Row = Row {
@@ -150,7 +157,7 @@ const WORK: Row = Row {
     usage: "",
     told: WORKLOADS,
     operand: Operand::Workload,
-    choices: &[DRIVER, WORK_TRACE, COLOR],
+    choices: &[DRIVER, WORK_TRACE, OBJECTS, COLOR],
 };
 
 /// The commands, in the order in which help lists them.

@@ -161,7 +161,20 @@ fn drawing(given: &ArgMatches) -> TraceRequest {
     TraceRequest::Draw
 }
 
-fn request(alloc: Global, name: &str, given: &ArgMatches) -> Result<Request, Error> {
+// A file of the name `-` is standard input.
+fn file(alloc: Global, given: &ArgMatches) -> Result<Option<String>, AllocError> {
+    match given.get_str("FILE") {
+        Some(path) if path != "-" => Ok(Some(String::from_str(alloc, path)?)),
+        _ => Ok(None),
+    }
+}
+
+fn request(
+    alloc: Global,
+    name: &str,
+    given: &ArgMatches,
+    is_typed: bool,
+) -> Result<Request, Error> {
     Ok(match name {
         "explore" => Request::Script(exploring(alloc, given)?),
         "check" => Request::Trace(TraceRequest::Check),
@@ -174,7 +187,10 @@ fn request(alloc: Global, name: &str, given: &ArgMatches) -> Result<Request, Err
         )?)),
         "format" => Request::Trace(TraceRequest::Format),
         "audit" => Request::Audit,
-        "step" => Request::Pool(PoolRequest::Step),
+        "step" => Request::Pool(PoolRequest::Step {
+            file: file(alloc, given)?,
+            is_typed,
+        }),
         "race" => Request::Script(racing(alloc, given)?),
         "work" => Request::Pool(working(alloc, given)?),
         _ => Request::Trace(replaying(given)),
@@ -185,11 +201,13 @@ fn input(alloc: Global, name: &str, given: &ArgMatches) -> Result<Input, AllocEr
     if name == "work" {
         return Ok(Input::Nothing);
     }
-    match given.get_str("FILE") {
-        Some(path) => Ok(Input::File(String::from_str(alloc, path)?)),
-        None if name == "step" => Ok(Input::Nothing),
-        None => Ok(Input::Standard),
-    }
+    let file = file(alloc, given)?;
+    Ok(match (name, file) {
+        ("step", Some(path)) => Input::Before(path),
+        ("step", None) => Input::Nothing,
+        (_, Some(path)) => Input::File(path),
+        (_, None) => Input::Standard,
+    })
 }
 
 // A command that has nothing to colour has no such option.
@@ -201,13 +219,17 @@ fn colours(given: &ArgMatches) -> When {
     }
 }
 
-/// Reads the words of a command line, the program's name first. Help and the version come as an error, as clap has them.
-pub fn read_words<S: AsStr>(alloc: Global, words: &[S]) -> Result<Asked, Error> {
+/// Reads the words of a command line, the program's name first. `is_typed` says whether standard input is a terminal. Help and the version
+/// come as an error, as clap has them.
+pub fn read_words<S: AsStr>(alloc: Global, words: &[S], is_typed: bool) -> Result<Asked, Error> {
     let matches = program(alloc)?.try_get_matches_from(words)?;
     let (name, given) = matches.subcommand().unwrap_or(("replay", &matches));
     Ok(Asked {
-        request: request(alloc, name, given)?,
+        request: request(alloc, name, given, is_typed)?,
         input: input(alloc, name, given)?,
         colours: colours(given),
+        // (a command without such an option has no such flag; explain and replay have objects of their own)
+        is_json: given.get_flag("json"),
+        is_loose: given.get_flag("loose"),
     })
 }

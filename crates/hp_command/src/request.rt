@@ -112,12 +112,22 @@ pub enum ScriptRequest {
 /// What is done with a pool that runs.
 #[derive(Drop)]
 pub enum PoolRequest {
-    /// To drive it line by line.
-    Step,
+    /// To drive it line by line. A line `save` writes the file whose lines come first, if there is one; and lines are asked for where they
+    /// are typed at a terminal.
+    Step {
+        file: Option<String>,
+        is_typed: bool,
+    },
     /// To run a workload of this name over a driver.
-    Work { name: String, driver: String },
+    Work {
+        name: String,
+        driver: String,
+    },
     /// To run a workload of this name, and write what its calls do as a trace.
-    TraceWork { name: String, driver: String },
+    TraceWork {
+        name: String,
+        driver: String,
+    },
 }
 
 /// What the command line asks for.
@@ -137,6 +147,8 @@ pub enum Input {
     Standard,
     /// The file of this name.
     File(String),
+    /// The file of this name, and behind it standard input, line by line.
+    Before(String),
     /// Nothing, or standard input line by line.
     Nothing,
 }
@@ -150,10 +162,13 @@ pub enum When {
     Never,
 }
 
-/// What the command line asks for, what is read for it, and when words of the output are coloured.
+/// What the command line asks for, what is read for it and whether in the loose form, when words of the output are coloured, and whether
+/// its lines are written as objects of JSON.
 #[derive(Drop)]
 pub struct Asked {
     pub request: Request,
     pub input: Input,
     pub colours: When,
+    pub is_json: bool,
+    pub is_loose: bool,
 }

@@ -46,6 +46,7 @@ pub(crate) const LOOSE: &str = "The loose form is a trace as people write it:
   deny TASK *N                   N denied steps
   step TASK until PHASE          steps up to the first that moves the call to PHASE, as replay prints it
   step TASK until ended          steps up to the end of the call
+Of a script whose header begins with script, comments, blank lines and spaces go, and the rest stays as it is.
 A strict trace stays as it is. If a phase can't be reached, since the call ends before it or waits for another
 task, nothing is printed, standard error names the line, and the status is 1.
   hugepool format notes.trace | hugepool explain";
@@ -74,10 +75,14 @@ pub(crate) const STEPS: &str =
   begin, step, deny, kill, resize ..     an event, as in a trace; prints its outcome
   step TASK *N, step TASK until PHASE    several steps, as in the input of hugepool format
   ?                                      prints where each call stands, and the outcome of its next step
-  undo                                   undoes the last event
+  undo, redo, undo N, redo N             undo the last event or the last N, or make them anew
   state, trace                           print the pool's state, and the trace so far
-  save FILE                              writes the trace so far into a file
+  load FILE                              goes on from the trace in a file
+  save FILE, save                        writes the trace so far into a file, or into the last one
   help, quit
+With FILE its lines are answered first, and then those of standard input. At a terminal each line is asked for by the
+counts and by who waits for whom, and a line that would drop events which are in no file has to be given twice.
+rlwrap hugepool step gives lines a history, and lets them be edited.
 A line that isn't understood is reported, and the next is read.";
 
 /// Of finding a run.

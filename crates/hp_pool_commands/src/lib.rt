@@ -6,10 +6,12 @@
 #![tactic(auto)]
 
 mod carrying;
+mod laying;
+mod session;
 mod stepping;
 mod tracing;
 mod typing;
 mod working;
 
-pub use stepping::run_step;
+pub use stepping::{Stepping, run_step};
 pub use working::{WorkFault, WorkWords, run_trace_work, run_work};

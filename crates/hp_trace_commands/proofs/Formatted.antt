@@ -1,4 +1,4 @@
--- What is answered where a trace in the loose form is written as a strict one.
+-- What is answered where a text in the loose form is written as a strict one.
 use Rattle.std.proofs.Common.{◌≡◌, ℕ, List, Option, Some, sym, subst, inl, inr, ◌⊎◌}
 use Rattle.std.specs.Prelude.{OnOk, OnErr, IfErr, Result, Ok, Err}
 use Rattle.std.specs.Io.KnownBytes.{Keeps}
@@ -6,7 +6,6 @@ use Rattle.std.proofs.KnownBytes.{Appends-kept, Keeps-trans}
 use Rattle.hp_format.specs.declared.fault.LooseFault.{LooseFault}
 use Rattle.hp_format.specs.declared.fault.LooseFault.TheVariants.{Stream, Line}
 use Rattle.hp_program.proofs.Buffered.{all_of}
-use Rattle.hp_text.specs.Traces.{trace_text}
 use Rattle.hp_text.specs.declared.fault.ReplayFault.TheVariants.{Write}
 use Rattle.hp_trace_commands.specs.Formatting.{AnsweredFormat, Formats, FormatsPartly, NotFormatted, TellsFormat}
 
@@ -14,24 +13,21 @@ use Rattle.hp_trace_commands.specs.Formatting.{AnsweredFormat, Formats, FormatsP
 module _ (from to before mid after : Option (List ℕ)) (kept : Keeps mid after) where
   whole_kept : Formats from to before mid → Formats from to before after
   whole_kept h = record {
-    sizes = h.sizes;
-    events = h.events;
+    strict = h.strict;
     reads = h.reads;
-    wrote = Appends-kept before mid after (trace_text h.sizes h.events) h.wrote kept;
+    wrote = Appends-kept before mid after h.strict h.wrote kept;
   }
 
   part_of : Formats from to before after → FormatsPartly from to before after
   part_of h = record {
-    sizes = h.sizes;
-    events = h.events;
+    strict = h.strict;
     reads = h.reads;
-    wrote = all_of before after (trace_text h.sizes h.events) h.wrote;
+    wrote = all_of before after h.strict h.wrote;
   }
 
   part_kept : FormatsPartly from to before mid → FormatsPartly from to before after
   part_kept h = record {
-    sizes = h.sizes;
-    events = h.events;
+    strict = h.strict;
     reads = h.reads;
     wrote = record {
       front = h.wrote.front;

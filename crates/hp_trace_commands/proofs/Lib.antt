@@ -1,2 +1,3 @@
 mod Formatted
+mod Reading
 mod Texts

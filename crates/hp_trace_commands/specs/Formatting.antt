@@ -1,31 +1,26 @@
 -- What comes of `hugepool format`.
 use Rattle.std.specs.Prelude.{◌≡◌, ◌⊎◌, ℕ, List, Option, Result, Ok, Err, MatchResult}
 use Rattle.std.specs.Io.KnownBytes.{Appends, Keeps}
-use Rattle.hp_base.specs.Text.{Sizes}
-use Rattle.hp_base.specs.declared.event.Event.{Event}
-use Rattle.hp_format.specs.Loose.{ReadsLoose}
 use Rattle.hp_format.specs.declared.fault.LooseFault.{LooseFault}
 use Rattle.hp_format.specs.declared.fault.LooseFault.TheVariants.{Stream, Line}
 use Rattle.hp_program.specs.Answers.{IfThere}
 use Rattle.hp_program.specs.Endings.{ReaderAt}
-use Rattle.hp_text.specs.Traces.{trace_text}
 use Rattle.hp_text.specs.Writing.{IsWriteFault, Wrote}
+use Rattle.hp_trace_commands.specs.Strict.{ReadsStrict}
 
 -- A reader had the bytes `from` left, and now has `to`; an output held `before`, and now holds `after`.
 
--- a text in the loose form was read, and the trace that it asks for written
+-- a text in the loose form was read, and the strict text that it asks for written
 pub record Formats (from to before after : Option (List ℕ)) : Type 0 where
-  pub sizes : Sizes
-  pub events : List Event
-  pub reads : ReadsLoose from to sizes events
-  pub wrote : Appends before after (trace_text sizes events)
+  pub strict : List ℕ
+  pub reads : ReadsStrict from to strict
+  pub wrote : Appends before after strict
 
--- it was read, and a front of that trace written
+-- it was read, and a front of that text written
 pub record FormatsPartly (from to before after : Option (List ℕ)) : Type 0 where
-  pub sizes : Sizes
-  pub events : List Event
-  pub reads : ReadsLoose from to sizes events
-  pub wrote : Wrote before after (trace_text sizes events)
+  pub strict : List ℕ
+  pub reads : ReadsStrict from to strict
+  pub wrote : Wrote before after strict
 
 -- Nothing is written before the whole text is read: so where it is at fault, or couldn't be read, nothing was written
 abbrev pub NotFormatted : LooseFault → (from to before after : Option (List ℕ)) → Type 0

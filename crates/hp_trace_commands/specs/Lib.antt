@@ -1,2 +1,3 @@
 pub mod Formatting
+pub mod Strict
 pub mod Traces

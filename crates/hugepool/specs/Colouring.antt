@@ -46,7 +46,7 @@ palette_of_script (script.Race r) = palette_of_racing r
 
 -- nor has the trace of a workload
 abbrev pub palette_of_pool : PoolRequest → Option Palette
-palette_of_pool pool.Step = Some Outcomes
+palette_of_pool (pool.Step file is_typed) = Some Outcomes
 palette_of_pool (pool.Work name driver) = Some Work
 palette_of_pool (pool.TraceWork name driver) = None
 

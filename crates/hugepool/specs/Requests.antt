@@ -1,5 +1,5 @@
 -- What the program does at each request, and the status with which it ends.
-use Rattle.std.specs.Prelude.{◌≡◌, ◌≢◌, ℕ, List, Option, Some, None, ◌⊎◌, Result, Ok, Err, IfOk, IfErr}
+use Rattle.std.specs.Prelude.{◌≡◌, ◌≢◌, ℕ, Bool, true, false, List, Option, Some, None, ◌⊎◌, Result, Ok, Err, IfOk, IfErr}
 use Rattle.std.specs.Io.KnownBytes.{Keeps}
 use Rattle.clap.specs.Values.{kind_of}
 use Rattle.clap.specs.declared.error.Error.{Error}
@@ -26,7 +26,11 @@ use Rattle.hp_script_commands.specs.Searching.{AnsweredEvery, status_of_every}
 use Rattle.hp_script_commands.specs.Tabling.{AnsweredTable}
 use Rattle.hp_text.specs.declared.fault.ReplayFault.{ReplayFault}
 use Rattle.hp_text.specs.declared.fault.ReplayFault.TheVariants.{Write}
+use Rattle.hp_format.specs.Loose.{loose_at}
+use Rattle.hp_format.specs.declared.fault.LooseFault.{LooseFault}
 use Rattle.hp_trace_commands.specs.Formatting.{AnsweredFormat, status_of_format}
+use Rattle.hp_trace_commands.specs.Strict.{ReadsStrict}
+use Rattle.hugepool.specs.Status.{searches, status_of_loose}
 use Rattle.hp_trace_commands.specs.Traces.{AnsweredCheck, AnsweredDraw, AnsweredExplain, AnsweredJson, AnsweredPage}
 
 -- A reader had the bytes `from` left, and now has `to`; whether it had failed, and whether it has now; an output held `before`, and now
@@ -81,7 +85,7 @@ EndsScript (script.Race r) status from to old new before after =
 -- with a pool that runs
 abbrev pub EndsPool : PoolRequest → (status : ℕ) → (from to : Option (List ℕ)) → (old new : ℕ)
     → (before : Option (List ℕ)) → (after : Option (Option (List ℕ))) → Type 0
-EndsPool pool.Step status from to old new before after =
+EndsPool (pool.Step file is_typed) status from to old new before after =
     EndsWith status_of_text status (λ answer. AnsweredStep answer old new after)
 EndsPool (pool.Work name driver) status from to old new before after =
     EndsWith status_of_work status (λ answer. (new ≡ old) × Keeps from to
@@ -98,6 +102,23 @@ Ends (Script r) status from to old new before after = EndsScript r status from t
 Ends (Pool r) status from to old new before after = EndsPool r status from to old new before after
 Ends Audit status from to old new before after =
     EndsWith status_of_audit status (λ answer. AnsweredAudit answer from to old new before after)
+
+-- how it ends where the input is in the loose form: as the request does with the strict text that it asks for; or it can't be read, and
+-- nothing is written
+abbrev pub EndsWithStrict : Request → (status : ℕ) → (from to : Option (List ℕ)) → (old new : ℕ) → (before : Option (List ℕ))
+    → (after : Option (Option (List ℕ))) → Type 0
+EndsWithStrict r status from to old new before after =
+    (strict : List ℕ) × ReadsStrict from to strict × (new ≡ old)
+    × ((left : Option (List ℕ)) × (was failed : ℕ) × Ends r status (Some strict) left was failed before after)
+
+abbrev pub EndsUnread : Request → (status : ℕ) → (old new : ℕ) → (before : Option (List ℕ)) → (after : Option (Option (List ℕ))) → Type 0
+EndsUnread r status old new before after =
+    (fault : LooseFault) × (new ≡ loose_at fault old) × (status ≡ status_of_loose (searches r)) × IfThere after (λ held. Keeps before held)
+
+abbrev pub EndsLoosely : Request → (status : ℕ) → (from to : Option (List ℕ)) → (old new : ℕ) → (before : Option (List ℕ))
+    → (after : Option (Option (List ℕ))) → Type 0
+EndsLoosely r status from to old new before after =
+    EndsWithStrict r status from to old new before after ⊎ EndsUnread r status old new before after
 
 -- the words ask for help
 abbrev pub IsHelp : Error → Type 0
@@ -122,9 +143,15 @@ pub record EndsUnasked (error : Error) (status : ℕ) (from to : Option (List �
   pub help : IsHelp error → EndsWith status_of_text status AnsweredHelp
   pub refused : ¬ IsHelp error → Refused error status before after
 
+-- how it ends at a request, as its input is read
+abbrev pub EndsRead : (is_loose : Bool) → Request → (status : ℕ) → (from to : Option (List ℕ)) → (old new : ℕ)
+    → (before : Option (List ℕ)) → (after : Option (Option (List ℕ))) → Type 0
+EndsRead true r status from to old new before after = EndsLoosely r status from to old new before after
+EndsRead false r status from to old new before after = Ends r status from to old new before after
+
 -- how it ends, as the words were read
 abbrev pub EndsAsAsked : Result Asked Error → (status : ℕ) → (from to : Option (List ℕ)) → (old new : ℕ)
     → (before : Option (List ℕ)) → (after : Option (Option (List ℕ))) → Type 0
 EndsAsAsked asked status from to old new before after =
-    IfOk asked (λ it. Ends it.request status from to old new before after)
+    IfOk asked (λ it. EndsRead it.is_loose it.request status from to old new before after)
     × IfErr asked (λ error. EndsUnasked error status from to old new before after)

@@ -1,7 +1,11 @@
 -- The status with which the program ends.
-use Rattle.std.specs.Prelude.{ℕ, Result, Ok, Err}
+use Rattle.std.specs.Prelude.{ℕ, Bool, true, false, Result, Ok, Err}
+use Rattle.hp_command.specs.declared.request.Request.{Request}
+use Rattle.hp_command.specs.declared.request.Request.TheVariants as request
+use Rattle.hp_command.specs.declared.request.ScriptRequest.{ScriptRequest}
+use Rattle.hp_command.specs.declared.request.ScriptRequest.TheVariants as script
 use Rattle.hugepool.specs.declared.stop.Stop.{Stop}
-use Rattle.hugepool.specs.declared.stop.Stop.TheVariants.{Usage, Replay, Work, Missed, Loose, Untold, Picture, Cut, CutTable}
+use Rattle.hugepool.specs.declared.stop.Stop.TheVariants.{Usage, Replay, Work, Missed, Loose, Untold, UntoldLoose, Picture, Cut, CutTable}
 use Rattle.hp_pool_commands.specs.Working.{work_status}
 
 -- 3 where a limit was reached before an answer; 2 where the words ask for nothing, and where an audit or a search couldn't tell; 1 after
@@ -13,6 +17,7 @@ status_of (Work fault) = work_status fault
 status_of (Missed what) = 1
 status_of (Loose fault) = 1
 status_of (Untold fault) = 2
+status_of (UntoldLoose fault) = 2
 status_of (Picture fault) = 2
 status_of (Cut turns) = 3
 status_of (CutTable turns) = 3
@@ -21,3 +26,26 @@ status_of (CutTable turns) = 3
 abbrev pub status_at : Result (Unit {0}) Stop → ℕ
 status_at (Ok x) = 0
 status_at (Err stop) = status_of stop
+
+-- it searches for something: a fault must not be taken for an answer
+abbrev pub searches_script : ScriptRequest → Bool
+searches_script (script.Explore exploration) = false
+searches_script (script.Summarize survey) = false
+searches_script (script.Schedule scheduling) = false
+searches_script (script.ScheduleEvery choice) = true
+searches_script (script.Find search) = true
+searches_script (script.ExploreEvery bounds) = true
+searches_script (script.FindEvery search) = true
+searches_script (script.Minimize conditions) = true
+searches_script (script.Race r) = false
+
+abbrev pub searches : Request → Bool
+searches (request.Trace r) = false
+searches (request.Script r) = searches_script r
+searches (request.Pool r) = false
+searches request.Audit = false
+
+-- the status after a text in the loose form that can't be read
+abbrev pub status_of_loose : (is_search : Bool) → ℕ
+status_of_loose true = 2
+status_of_loose false = 1

@@ -12,7 +12,7 @@ use crate::stop::{
 };
 use hp_command::{PoolRequest, Request, ScriptRequest, TraceRequest};
 use hp_picture_commands::{run_audit, run_state};
-use hp_pool_commands::{WorkWords, run_step, run_trace_work, run_work};
+use hp_pool_commands::{Stepping, WorkWords, run_step, run_trace_work, run_work};
 use hp_program::run_replay;
 use hp_script_commands::{
     Report, run_explore, run_explore_every, run_find, run_find_every, run_minimize, run_race,
@@ -148,7 +148,13 @@ fn answer_pool<H: Clock + Files + Threads + Wait + Sync, R: Source, W: Write + D
         (R.failures reader.new) (W.contents out) (option_map W.contents result.1) }
 {
     match request {
-        PoolRequest::Step => text(run_step(rt, alloc, reader, out)),
+        PoolRequest::Step { file, is_typed } => text(run_step(
+            rt,
+            alloc,
+            reader,
+            Stepping { file, is_typed },
+            out,
+        )),
         PoolRequest::Work { name, driver } => {
             let (worked, out) = run_work(rt, alloc, WorkWords { name, driver }, out);
             (stop_of_work(worked), out)

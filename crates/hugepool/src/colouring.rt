@@ -56,7 +56,7 @@ fn palette_of_pool(request: &PoolRequest) -> Option<Palette>
     ensures { result ≡ palette_of_pool request.now }
 {
     match request {
-        PoolRequest::Step => Some(Palette::Outcomes),
+        PoolRequest::Step { .. } => Some(Palette::Outcomes),
         PoolRequest::Work { .. } => Some(Palette::Work),
         PoolRequest::TraceWork { .. } => None,
     }
@@ -110,13 +110,15 @@ fn look_around(rt: &HostRuntime) -> Surroundings {
     }
 }
 
-/// The words that are coloured in what is asked for, if any are. If nothing is, none are.
+/// The words that are coloured in what is asked for, if any are. If nothing is, or objects of JSON, none are.
 pub(crate) fn chosen_palette(
     rt: &HostRuntime,
     asked: &Result<Asked, clap::Error>,
 ) -> Option<Palette> {
     match asked {
-        Ok(asked) if paints(asked.colours, look_around(rt)) => palette_of(&asked.request),
+        Ok(asked) if !asked.is_json && paints(asked.colours, look_around(rt)) => {
+            palette_of(&asked.request)
+        }
         _ => None,
     }
 }

@@ -49,11 +49,29 @@ fn is_read(asked: &Asked, reads: Reads) -> bool {
     }
 }
 
+// Whether words are a line that scripts have alone.
+fn is_of_script(words: &[u8], number: u64) -> bool {
+    match number {
+        1 => words.starts_with(b"script "),
+        _ => words.starts_with(b"after "),
+    }
+}
+
+// Whether the line of that number is right in the loose form of a script whose calls may wait, and not as it is.
+fn is_loose_in_script(alloc: Global, line: Line, number: u64) -> Result<bool, AllocError> {
+    let mut words = Vec::new(alloc);
+    tidy(line.bytes, &mut words)?;
+    Ok(is_of_script(words.as_slice(), number) && is_tidied(alloc, line)?)
+}
+
 // Whether the line of that number is right in the loose form. Nothing at all isn't.
 fn is_loose(alloc: Global, line: Line, number: u64, reads: Reads) -> Result<bool, AllocError> {
     // The checker of borrows asks for a mention of the types that a line may ask for.
     let _none: (Option<Event>, Option<Op>) = (None, None);
     let mut words = Vec::new(alloc);
+    if reads == Reads::Script && is_loose_in_script(alloc, line, number)? {
+        return Ok(true);
+    }
     if number > 1 {
         return Ok(match asked_of(line.bytes, &mut words)? {
             Some(asked) => is_read(&asked, reads),
@@ -65,19 +83,26 @@ fn is_loose(alloc: Global, line: Line, number: u64, reads: Reads) -> Result<bool
     Ok(is_blank || header_at(words.as_slice()).is_some())
 }
 
-// Whether the first line is the header of a script whose calls wait, which the loose form lacks.
+// Whether the first line is the header of a script whose calls wait.
 fn waits<R: Recalls>(reader: &R) -> bool {
     match reader.line(1) {
-        Some(line) => line.bytes.starts_with(b"script"),
+        Some(line) => line.bytes.starts_with(b"script "),
         None => false,
     }
+}
+
+// Whether the strict form has the line otherwise, or not at all.
+fn is_tidied(alloc: Global, line: Line) -> Result<bool, AllocError> {
+    let mut words = Vec::new(alloc);
+    tidy(line.bytes, &mut words)?;
+    Ok(words.as_slice() != line.bytes || words.is_empty() && line.is_ended)
 }
 
 // Whether the reader gave nothing, and the command that reads it stopped at that.
 fn is_empty<R: Recalls>(answer: &Result<(), Stop>, reader: &R) -> bool {
     let stopped = match answer {
         Err(Stop::Replay(_) | Stop::Untold(_)) => line_of(answer) == Some(1),
-        Err(Stop::Loose(_) | Stop::Picture(_)) => true,
+        Err(Stop::Loose(_) | Stop::UntoldLoose(_) | Stop::Picture(_)) => true,
         _ => false,
     };
     match reader.line(1) {
@@ -116,7 +141,10 @@ pub(crate) fn tell_loose<R: Recalls>(
     reader: &R,
     faults: &mut impl Write,
 ) {
-    let Err(Stop::Loose(LooseFault::Line(number, why))) = answer else {
+    let Err(Stop::Loose(fault) | Stop::UntoldLoose(fault)) = answer else {
+        return;
+    };
+    let LooseFault::Line(number, why) = fault else {
         return;
     };
     let (Some(is_header), Some(line)) = (wrong_header(why), reader.line(*number)) else {
@@ -145,14 +173,39 @@ fn hint_format<R: Recalls>(
     let Some(line) = reader.line(number) else {
         return;
     };
+    // (a call that waits may be wrong where its line is right)
+    if waits(reader) && !matches!(is_tidied(alloc, line), Ok(true)) {
+        return;
+    }
     let is_loose = matches!(is_loose(alloc, line, number, reads), Ok(true));
-    if is_loose && reads != Reads::Other && !waits(reader) {
+    if is_loose && reads != Reads::Other {
         let _ = faults.write_all(LOOSE);
     }
 }
 
 const LOOSE: &[u8] =
     b"hugepool: hugepool format accepts this line, and prints a trace that this command accepts\n";
+
+/// Of which text the lines are counted.
+#[derive(Clone, Copy)]
+pub(crate) enum Counted {
+    /// Of that which was read.
+    Read,
+    /// Of the strict one that it asks for.
+    Strict,
+}
+
+const STRICT: &[u8] =
+    b"hugepool: lines are counted in the strict form, which hugepool format prints\n";
+
+impl Counted {
+    /// Says so, if the number of a line was told.
+    pub(crate) fn hint(self, answer: &Result<(), Stop>, faults: &mut impl Write) {
+        if matches!(self, Counted::Strict) && line_of(answer).is_some() {
+            let _ = faults.write_all(STRICT);
+        }
+    }
+}
 
 // More lines than are ever recalled.
 const LINES: u64 = 1_000;

@@ -12,6 +12,35 @@ const TERMINAL: &[u8] =
 pub(crate) enum Opened {
     Standard(Stdin),
     File(File),
+    Before(Before),
+}
+
+/// A file, and behind it standard input. The file's last line ends where the file does.
+#[derive(Drop)]
+pub(crate) struct Before {
+    file: File,
+    is_over: bool,
+    is_ended: bool,
+    stdin: Stdin,
+}
+
+impl Read for Before {
+    fn read(&mut self, buf: &mut [u8]) -> io::Result<usize> {
+        if self.is_over || buf.is_empty() {
+            return self.stdin.read(buf);
+        }
+        let count = self.file.read(buf)?;
+        if count > 0 {
+            self.is_ended = buf.get(count - 1) == Some(&b'\n');
+            return Ok(count);
+        }
+        self.is_over = true;
+        if self.is_ended {
+            return self.stdin.read(buf);
+        }
+        buf[0] = b'\n';
+        Ok(1)
+    }
 }
 
 impl Read for Opened {
@@ -19,6 +48,7 @@ impl Read for Opened {
         match self {
             Opened::Standard(stdin) => stdin.read(buf),
             Opened::File(file) => file.read(buf),
+            Opened::Before(before) => before.read(buf),
         }
     }
 }
@@ -26,12 +56,12 @@ impl Read for Opened {
 /// The name of the file that is read, if one is.
 pub(crate) fn file_of(input: &Input) -> Option<&str> {
     match input {
-        Input::File(path) if path.as_str() != "-" => Some(path.as_str()),
-        Input::File(_) | Input::Standard | Input::Nothing => None,
+        Input::File(path) | Input::Before(path) => Some(path.as_str()),
+        Input::Standard | Input::Nothing => None,
     }
 }
 
-/// What is asked for is opened. A file of the name `-` is standard input, too. If the file can't be opened, that is reported, and there
+/// What is asked for is opened. If the file can't be opened, that is reported, and there
 /// is none.
 pub(crate) fn open_input(
     rt: &HostRuntime,
@@ -41,10 +71,16 @@ pub(crate) fn open_input(
     let Ok(asked) = asked else {
         return Some(Opened::Standard(rt.stdin()));
     };
-    match (file_of(&asked.input), &asked.input) {
-        (Some(path), _) => open_file(rt, path, faults),
-        (None, Input::Nothing) => Some(Opened::Standard(rt.stdin())),
-        (None, _) => Some(Opened::Standard(standard(rt, faults))),
+    match &asked.input {
+        Input::File(path) => Some(Opened::File(open_file(rt, path.as_str(), faults)?)),
+        Input::Before(path) => Some(Opened::Before(Before {
+            file: open_file(rt, path.as_str(), faults)?,
+            is_over: false,
+            is_ended: true,
+            stdin: rt.stdin(),
+        })),
+        Input::Nothing => Some(Opened::Standard(rt.stdin())),
+        Input::Standard => Some(Opened::Standard(standard(rt, faults))),
     }
 }
 
@@ -58,9 +94,9 @@ fn standard(rt: &HostRuntime, faults: &mut impl Write) -> Stdin {
 }
 
 // The file of that name.
-fn open_file(rt: &HostRuntime, path: &str, faults: &mut impl Write) -> Option<Opened> {
+fn open_file(rt: &HostRuntime, path: &str, faults: &mut impl Write) -> Option<File> {
     match File::open(rt, path) {
-        Ok(file) => Some(Opened::File(file)),
+        Ok(file) => Some(file),
         Err(error) => {
             let _ = writeln!(faults, "hugepool: {path}: {error}");
             None

@@ -9,6 +9,7 @@ mod answering;
 mod colouring;
 mod hinting;
 mod input;
+mod objects;
 mod program;
 mod stop;
 mod words;
@@ -16,12 +17,15 @@ mod words;
 use colouring::chosen_palette;
 use hp_command::read_words;
 use hp_diagnostics::Recalling;
+use hp_objects::Objects;
 use hp_paint::Painted;
 use hp_program::{LEFT, Noted, has_left, write_error};
 use hp_text::Watched;
 use input::open_input;
+use objects::chosen_output;
 use program::program;
 use std::io;
+use std::io::IsTerminal;
 use std::process::ExitCode;
 use words::{end_without, words};
 
@@ -31,13 +35,16 @@ fn main(rt: HostRuntime) -> io::Result<ExitCode> {
         Ok(words) => words,
         Err(why) => return Ok(ExitCode::from(end_without(why, &mut faults))),
     };
-    let asked = read_words(rt.alloc(), words.as_slice());
+    let asked = read_words(rt.alloc(), words.as_slice(), rt.stdin().is_terminal());
     let Some(input) = open_input(&rt, &asked, &mut faults) else {
         return Ok(ExitCode::from(1));
     };
     let mut reader = Recalling::new(Watched::new(Noted::new(input)));
     let palette = chosen_palette(&rt, &asked);
-    let out = Noted::new(Painted::new(rt.alloc(), rt.stdout(), palette));
+    let painted = Painted::new(rt.alloc(), rt.stdout(), palette);
+    let mut objects = Objects::new(rt.alloc(), painted, chosen_output(&asked));
+    objects.begin();
+    let out = Noted::new(objects);
     let (status, out) = program(&rt, rt.alloc(), asked, &mut reader, out, &mut faults);
     if has_left(&out) {
         return Ok(ExitCode::from(LEFT));

@@ -2,19 +2,20 @@
 ghost use Rattle.std.specs.Prelude.{◌≡◌, ◌≢◌};
 ghost use Rattle.std.specs.Option.{option_map};
 ghost use Rattle.clap.specs.Values.{kind_of};
-ghost use Rattle.hugepool.specs.Requests.{AnsweredHelp, Ends, EndsAsAsked, EndsUnasked};
+ghost use Rattle.hugepool.specs.Requests.{AnsweredHelp, Ends, EndsAsAsked, EndsLoosely, EndsUnasked};
 ghost use Rattle.hugepool.specs.Status.{status_at, status_of};
 
 use crate::answering::answer;
-use crate::hinting::{Hints, hint_empty, tell_loose};
+use crate::hinting::{Counted, Hints, hint_empty, tell_loose};
 use crate::input::file_of;
-use crate::stop::{Stop, stop_of_text};
+use crate::stop::{Stop, searches, stop_of_loose, stop_of_text};
 use clap::error::ErrorKind;
 use hp_command::{Asked, Input, Request};
-use hp_diagnostics::Recalls;
+use hp_diagnostics::{Recalling, Recalls};
 use hp_program::{Heard, has_left, write_fault};
 use hp_script_commands::Report;
-use hp_text::{ReplayFault, Source};
+use hp_text::{ReplayFault, Source, Watched};
+use hp_trace_commands::read_strict;
 use std::alloc::Global;
 use std::io;
 use std::io::Write;
@@ -42,8 +43,17 @@ pub(crate) fn program<
         (R.failures reader.new) (W.contents out) (option_map W.contents result.1) }
 {
     match asked {
+        Ok(
+            Asked {
+                request,
+                input,
+                is_loose: true,
+                ..
+            },
+        ) => carry_out_loosely(rt, alloc, request, &input, reader, out, faults),
         Ok(Asked { request, input, .. }) => {
-            carry_out(rt, alloc, request, &input, reader, out, faults)
+            let lines = Counted::Read;
+            carry_out(rt, alloc, request, &input, lines, reader, out, faults)
         }
         Err(error) => refuse(error, &*reader, out, faults),
     }
@@ -55,6 +65,7 @@ fn carry_out<H: Clock + Files + Threads + Wait + Sync, R: Source + Recalls, W: H
     alloc: Global,
     request: Request,
     input: &Input,
+    lines: Counted,
     reader: &mut R,
     out: W,
     faults: &mut impl Report,
@@ -68,10 +79,42 @@ fn carry_out<H: Clock + Files + Threads + Wait + Sync, R: Source + Recalls, W: H
         return (status_at(&answer), out);
     }
     let status = end(&answer, file_of(input), &*reader, faults);
+    lines.hint(&answer, faults);
     tell_loose(alloc, &answer, &*reader, faults);
     hint_empty(&answer, input, &*reader, faults);
     hints.give(alloc, &answer, &*reader, faults);
     (status, out)
+}
+
+// Does what is asked for with the strict text that the input asks for.
+fn carry_out_loosely<
+    H: Clock + Files + Threads + Wait + Sync,
+    R: Source + Recalls,
+    W: Heard + Drop,
+>(
+    rt: &H,
+    alloc: Global,
+    request: Request,
+    input: &Input,
+    reader: &mut R,
+    out: W,
+    faults: &mut impl Report,
+) -> (u8, Option<W>)
+    ensures { EndsLoosely request result.0 (R.remaining reader.old) (R.remaining reader.new) (R.failures reader.old)
+        (R.failures reader.new) (W.contents out) (option_map W.contents result.1) }
+{
+    let strict = match read_strict(alloc, reader) {
+        Ok(strict) => strict,
+        Err(fault) => {
+            let answer = Err(stop_of_loose(fault, searches(&request)));
+            let status = end(&answer, file_of(input), &*reader, faults);
+            tell_loose(alloc, &answer, &*reader, faults);
+            return (status, Some(out));
+        }
+    };
+    let mut source = Recalling::new(Watched::new(strict.as_slice()));
+    let lines = Counted::Strict;
+    carry_out(rt, alloc, request, input, lines, &mut source, out, faults)
 }
 
 // The status of an answer.
@@ -110,7 +153,10 @@ fn tell<R: Recalls>(
         (Stop::Replay(fault) | Stop::Untold(fault), file) => {
             write_fault(*fault, file, reader, faults)
         }
-        (Stop::Loose(fault), Some(file)) => writeln!(faults, "hugepool: {file}: {fault}"),
+        (Stop::Loose(fault) | Stop::UntoldLoose(fault), Some(file)) => writeln!(
+            faults,
+            "hugepool: {file}: {fault}"
+        ),
         (Stop::Picture(fault), Some(file)) => writeln!(faults, "hugepool: {file}: {fault}"),
         _ => write!(faults, "{stop}"),
     }

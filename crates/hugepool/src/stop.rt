@@ -6,8 +6,9 @@ ghost use Rattle.hp_program.specs.Answers.{status_of_runs, status_of_text};
 ghost use Rattle.hp_script_commands.specs.Hunting.{status_of_hunt};
 ghost use Rattle.hp_script_commands.specs.Searching.{status_of_every};
 ghost use Rattle.hp_trace_commands.specs.Formatting.{status_of_format};
-ghost use Rattle.hugepool.specs.Status.{status_at, status_of};
+ghost use Rattle.hugepool.specs.Status.{searches, status_at, status_of, status_of_loose};
 
+use hp_command::{Request, ScriptRequest};
 use hp_format::LooseFault;
 use hp_picture::PictureFault;
 use hp_pool_commands::WorkFault;
@@ -29,6 +30,8 @@ pub(crate) enum Stop {
     Loose(LooseFault),
     #[error("{0}")]
     Untold(ReplayFault),
+    #[error("hugepool: {0}\n")]
+    UntoldLoose(LooseFault),
     #[error("hugepool: {0}\n")]
     Picture(PictureFault),
     /// The limits ran out: no schedule of fewer events meets the conditions.
@@ -68,7 +71,7 @@ impl Stop {
         ensures { result ≡ status_of self.now }
     {
         match self {
-            Stop::Usage(_) | Stop::Untold(_) | Stop::Picture(_) => 2,
+            Stop::Usage(_) | Stop::Untold(_) | Stop::UntoldLoose(_) | Stop::Picture(_) => 2,
             Stop::Cut(_) | Stop::CutTable(_) => 3,
             Stop::Replay(_) | Stop::Missed(_) | Stop::Loose(_) => 1,
             Stop::Work(fault) => fault.status(),
@@ -139,6 +142,34 @@ pub(crate) fn stop_of_format(answer: Result<(), LooseFault>) -> Result<(), Stop>
         Ok(()) => Ok(()),
         Err(LooseFault::Stream(why)) => Err(Stop::Replay(why)),
         Err(fault) => Err(Stop::Loose(fault)),
+    }
+}
+
+/// Whether a request searches for something, so that a fault must not be taken for an answer.
+pub(crate) fn searches(request: &Request) -> bool
+    ensures { result ≡ searches request.now }
+{
+    matches!(
+        request,
+        Request::Script(
+            ScriptRequest::Find(_)
+                | ScriptRequest::FindEvery(_)
+                | ScriptRequest::Minimize(_)
+                | ScriptRequest::ExploreEvery(_)
+                | ScriptRequest::ScheduleEvery(_)
+        )
+    )
+}
+
+/// Of a text in the loose form that can't be read.
+pub(crate) fn stop_of_loose(fault: LooseFault, is_search: bool) -> Stop
+    ensures { status_of result ≡ status_of_loose is_search }
+{
+    match (fault, is_search) {
+        (LooseFault::Stream(why), false) => Stop::Replay(why),
+        (LooseFault::Stream(why), true) => Stop::Untold(why),
+        (fault, false) => Stop::Loose(fault),
+        (fault, true) => Stop::UntoldLoose(fault),
     }
 }
 
