@@ -105,8 +105,8 @@ def commands() -> list[str]:
 
 
 def status_of(words: str) -> int:
-    """The status of these words behind a fault."""
-    return 2 if words.split()[0] in ("audit", "find", "minimize") else 1
+    """The status of these words behind a fault: that of a search or an audit isn't taken for an answer."""
+    return 2 if words.split()[0] in ("audit", "find", "minimize") or "--every" in words else 1
 
 
 def is_proved() -> bool:
