@@ -23,7 +23,7 @@ WORDS = {
     ),
     "script": (
         *("explore --runs 2", "explore --summary --runs 2", "schedule", "race --times 2", "race --trace"),
-        *("find --final resv=1", "find --every --final resv=1", "explore --every --json", "find --json --final resv=1", "race --json --times 2"),
+        *("find --final resv=1", "find --every --final resv=1", "explore --every --json", "find --json --final resv=1"),
     ),
     "picture": ("audit", "audit --json"),
     "": ("work readback", "work readback --json", "work readback --trace", "--help"),
