@@ -62,8 +62,8 @@ impl Config {
         })
     }
 
-    /// The same pool, whose files together may have so many pages: reserved indices and what calls count on
-    /// besides. No more than 65,536, which are all that sixteen files can have.
+    /// Gives the pool a quota: how many pages its files together may have, reserved indices and what calls count
+    /// on besides. No more than 65,536, which are all that sixteen files can have.
     pub fn with_quota(self, quota: u32) -> Result<Self, Fault>
         ensures within { IsOk result ↔ (quota ≤ 65536) }
         ensures quota { IfOk result (λ config. config.quota ≡ Some quota) }

@@ -67,7 +67,7 @@ fn event_line(alloc: Global, event: &EventWords) -> Result<String, u32>
     }
 }
 
-/// The same of an outcome.
+/// The line of the outcome that numbers name.
 fn outcome_line(alloc: Global, outcome: &OutcomeWords) -> Result<String, u32>
     ensures ok { IfOk result (λ text. option_map outcome_text (outcome_named outcome.now) ≡ Some (string_bytes text)) }
     ensures err { IfErr result (λ code. (code ≡ no_memory) ⊎ (code ≡ no_such) × (outcome_named outcome.now ≡ None)) }

@@ -60,7 +60,7 @@ pub(crate) fn put_at(
     put_into(alloc, &mut chunks[at], place, frame)
 }
 
-/// The same chunks, for which memory is taken.
+/// Copies all chunks, for which it takes memory.
 pub(crate) fn copy_all(
     alloc: Global,
     chunks: &[Option<Box<Chunk>>],

@@ -65,9 +65,9 @@ fn copy_task_states(alloc: Global, task_states: &[TaskState]) -> Result<Vec<Task
 }
 
 impl Core {
-    /// The same pool in memory of its own: whatever happens to one of the two from here on, the other doesn't see it.
-    /// It is for a running pool whose journal is cut: the pool keeps the core of its last cut, to compare histories
-    /// from there on. No call may be in flight, since what a call holds could be given back to only one of the two.
+    /// Copies the pool into memory of its own: whatever happens to one of the two from here on, the other doesn't see
+    /// it. A running pool whose journal is cut keeps the core of its last cut so, to compare histories from there on.
+    /// No call may be in flight, since what a call holds could be given back to only one of the two.
     pub fn copy(&self, alloc: Global) -> Result<Core, AllocError>
         requires { calls_of self.now ≡ 0 }
 

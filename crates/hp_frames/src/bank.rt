@@ -95,9 +95,8 @@ impl Bank {
         Ok(bank)
     }
 
-    /// The same frames, words and counts in a bank of its own, for which memory is taken. It is for a running pool
-    /// whose journal is cut: the pool keeps the core of its last cut, to compare histories from there on. No frame
-    /// may be in a hand, since its token could be given back to only one of the two banks.
+    /// Copies frames, words and counts into a bank of its own, for which it takes memory. A running pool whose journal
+    /// is cut keeps the core of its last cut so, to compare histories from there on. No frame may be in a hand, since its token could be given back to only one of the two banks.
     pub fn copy(&self, alloc: Global) -> Result<Bank, AllocError>
         requires { hand_count self.now ≡ 0 }
         ensures { IfOk result (λ copy. copy ≡ record self.now { capacity = copy.capacity }) }

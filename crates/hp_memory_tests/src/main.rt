@@ -54,7 +54,7 @@ fn tell_cut<R: Wait + Print>(rt: &R, alloc: Global) -> io::Result<()> {
     Ok(())
 }
 
-/// The same of the pool that is resized.
+/// Tells of the pool that is resized, twice at most.
 fn tell_resized<R: Wait + Print>(rt: &R, alloc: Global) -> io::Result<()> {
     for _ in 0..2 {
         if resized::tell::<Brand, _>(rt, alloc, Blank::new(1), config_for(1))? {
@@ -64,7 +64,7 @@ fn tell_resized<R: Wait + Print>(rt: &R, alloc: Global) -> io::Result<()> {
     Ok(())
 }
 
-/// The same of the stores in threads.
+/// Tells of the stores in threads, twice at most.
 fn tell_stores<R: Threads + Wait + Sync + Print>(
     rt: &R,
     alloc: Global,

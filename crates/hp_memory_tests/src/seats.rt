@@ -58,7 +58,7 @@ pub(crate) fn tell(
     }
 }
 
-/// The same of one that was made again where it found no memory.
+/// Prints what was replied to a call, and then to the one that was made again where it found no memory.
 pub(crate) fn tell_made(rt: &impl Print, name: &str, made: &Made) -> io::Result<()> {
     tell(rt, name, &made.first)?;
     match &made.then {

@@ -25,7 +25,7 @@ impl Model for Key {
 }
 
 impl Key {
-    /// The same key once more.
+    /// Copies the key.
     pub(crate) fn copy(&self, alloc: Global) -> Result<Key, AllocError>
         ensures { IfOk result (λ key. key ≡ self.now) }
     {

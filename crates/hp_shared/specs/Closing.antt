@@ -23,7 +23,8 @@ ClosesWith seats core first journal =
     × Interleaves first journal (lists_of seats)
     × Follows start journal core
 
--- The same of a pool of this config: as many entries as first says led to the core of the last cut from its opening state
+-- As `ClosesWith`, of a pool of this config: as many entries as first says led to the core of the last cut from its
+-- opening state
 abbrev pub ClosesPoolOf : Config → List SeatState → CoreState → (first : ℕ) → (journal : List Entry) → Type 0
 ClosesPoolOf config seats core first journal =
     (earlier : List Entry) × (start : CoreState)

@@ -41,7 +41,7 @@ pub fn interleaved(
     compare(alloc, 0, journal, lists)
 }
 
-/// The same of a part of a journal, whose positions begin at `first`.
+/// As [`interleaved`], of a part of a journal, whose positions begin at `first`.
 pub fn interleaved_from(
     alloc: Global,
     first: u64,
@@ -56,7 +56,7 @@ pub fn interleaved_from(
     compare(alloc, first, journal, lists)
 }
 
-/// The same of anything that has a list.
+/// As [`interleaved_from`], of anything that has a list.
 pub fn compare<S: Listed>(
     alloc: Global,
     first: u64,

@@ -77,8 +77,8 @@ impl SlotTable {
         Ok(SlotTable { holders })
     }
 
-    /// The same holders in a table of its own, for which memory is taken. It is for a running pool whose journal is
-    /// cut: the pool keeps the core of its last cut, to compare histories from there on.
+    /// Copies the holders into a table of its own, for which it takes memory. A running pool whose journal is cut keeps
+    /// the core of its last cut so, to compare histories from there on.
     pub fn copy(&self, alloc: Global) -> Result<SlotTable, AllocError>
         ensures { IfOk result (λ copy. copy ≡ self.now) }
     {
