@@ -4,7 +4,7 @@
 usage: ./check mutants [CRATE ..] [--all] [--each]
 
 Of crates that are named it tries all mutants. Without a name it tries those of each crate of which a commit since the time in
-gate/tried.txt changed a file in src/, specs/, edits/, must-fail/ or must-not-compile/, or that has such a change uncommitted. With --all it
+gate/tried.txt changed more than comments in src/, specs/, edits/, must-fail/ or must-not-compile/, or that has any change there uncommitted. With --all it
 tries all. Where all of a crate are refused, and none of its files is changed, the time at which the trial began stands in that file then:
 first that of all, and behind it those of crates that were tried later.
 
@@ -43,6 +43,8 @@ UNPROVED = "(none)"
 MOST_JOBS = 4
 # what belongs to a mutant's crate: it is due where such a file changed
 OWN = re.compile(r"crates/(\w+)/(?:src|specs|edits|must-fail|must-not-compile)/")
+# a changed line that may change what the prover answers: no comment alone
+SAYS = "^ *([^ /-]|/[^/]|-[^-])"
 TRIED = TOP / "gate" / "tried.txt"
 # what the toolchain says of a mutant that it tried, and how it begins where the mutant is refused for its own sake
 TOLD = re.compile(r"^rt: must-fail \w+/([\w.-]+)\.edit: (.*)$", re.M)
@@ -167,7 +169,7 @@ def due(top: Path, tried: str, every: set[str]) -> set[str]:
         if git(top, "rev-parse", "--is-shallow-repository").strip() == "true":
             return every
         # (a merge is shown as what it brought to the branch, at its own time)
-        shown = ("log", "--first-parent", "-m", "--name-only", "--format=@%cI", f"--since-as-filter={since.isoformat()}", "--", "crates")
+        shown = ("log", "--first-parent", "-m", "--name-only", "--format=@%cI", f"-G{SAYS}", f"--since-as-filter={since.isoformat()}", "--", "crates")
         changed = {made[1] for made in OWN.finditer(git(top, "status", "--porcelain", "--untracked-files=all", "--", "crates"))}
         for commit in git(top, *shown).split("@")[1:]:
             time, _, files = commit.partition("\n")

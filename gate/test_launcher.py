@@ -302,9 +302,9 @@ def dues(top: Path) -> Iterator[tuple[str, bool]]:
     dated = lambda at: {**os.environ, "GIT_COMMITTER_DATE": at}
     git = lambda *words, at="": subprocess.run([*own, *words], capture_output=True, check=True, env=dated(at))
 
-    def commit(path: str, at: str) -> None:
+    def commit(path: str, at: str, text: str = "") -> None:
         (top / path).parent.mkdir(parents=True, exist_ok=True)
-        (top / path).write_text(at, encoding="utf-8")
+        (top / path).write_text(text or at, encoding="utf-8")
         git("add", "-A")
         git("commit", "-qm", "one", at=at)
 
@@ -313,11 +313,15 @@ def dues(top: Path) -> Iterator[tuple[str, bool]]:
     commit("crates/low/src/lib.rt", "2026-01-01T11:00:00+00:00")
     commit("crates/low/proofs/a.antt", later)
     yield "what was committed before isn't due, nor are proofs", due(top, tried, every) == set()
+    commit("crates/high/src/lib.rt", later, "    /// a\n    // b\n-- c\n\n")
+    yield "nor what changed comments alone", due(top, tried, every) == set()
+    commit("crates/high/src/lib.rt", later, "    /// a\n    -b / c\n")
+    yield ".. but what changed code beside them is", due(top, tried, every) == {"high"}
+    tried = f"{tried}\nhigh 2026-01-01T14:00:00+00:00"
     yield "without a time all are due", due(top, "soon", every) == every
     commit("crates/low/edits/a.edit", later)
     yield "a mutant makes those of its own crate due", due(top, tried, every) == {"low"}
     yield ".. unless they were tried later", due(top, f"{tried}\nlow 2026-01-01T14:00:00+00:00", every) == set()
-    (top / "crates/high/src").mkdir(parents=True)
     (top / "crates/high/src/lib.rt").write_text("new", encoding="utf-8")
     yield "a change that isn't committed does, too", due(top, tried, every) == every
 
