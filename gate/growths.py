@@ -267,7 +267,7 @@ def fault(case: Case, right: Told, told: Told) -> str | None:
 
 
 def story_fault(case: Case, right: Told, told: Told) -> str | None:
-    """The same of a story."""
+    """What is wrong with a story that was told, or None."""
     if len(told.faults) > 1:
         return f"more than one growth was refused: {told.faults}"
     if (told.status, told.err) != (0, ""):
@@ -285,7 +285,7 @@ def stores_told(first: str, numbers: str, second: str) -> str:
 
 
 def driver_fault(_: Case, right: Told, told: Told) -> str | None:
-    """The same of the two stores over a driver, which aren't made again."""
+    """What is wrong with two stores over a driver, which aren't made again, or None."""
     if len(told.faults) > 1 or (told.status, told.err) != (0, ""):
         return f"status {told.status}, on standard error {told.err!r}, faults {told.faults!r}"
     if told.out.count("out of memory") > len(told.faults):

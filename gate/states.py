@@ -37,7 +37,7 @@ def told(trace: str, out: str) -> tuple[object, ...]:
 
 
 def drawn(text: str, has_quota: bool) -> tuple[object, ...]:
-    """The same of a picture."""
+    """What a picture shows of a state, as above of an output."""
     it = pictures.read(text.encode())
     regions, pages = (Counter(line[0] for line in lines) for lines in (it.regions, it.pages))
     reserved: Counter[int] = Counter()

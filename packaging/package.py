@@ -146,7 +146,7 @@ def program() -> Built:
 
 
 def archive() -> Built:
-    """The same of the library."""
+    """The library: proved and built, or what PACKAGE_ARCHIVE names."""
     if given := os.environ.get("PACKAGE_ARCHIVE"):
         return Built(Path(given).resolve(), None)
     say("proving and building the library, where that isn't done yet")

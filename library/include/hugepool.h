@@ -328,7 +328,7 @@ uint32_t hugepool_explain(const uint8_t *trace, size_t length, uint8_t *out, siz
 uint32_t hugepool_explain_rows(const uint8_t *trace, size_t length, uint32_t first, uint32_t last, uint8_t *out, size_t room, size_t *needed,
                                uint32_t *line);
 
-/** The same in lines of JSON: an object of the pool, one of each event of these lines, and one of the state behind the last. */
+/** Rows as lines of JSON: an object of the pool, one of each event of these lines, and one of the state behind the last. */
 uint32_t hugepool_explain_json(const uint8_t *trace, size_t length, uint32_t first, uint32_t last, uint8_t *out, size_t room, size_t *needed,
                                uint32_t *line);
 

@@ -68,7 +68,7 @@ def explain_rows(trace: str | bytes, first: int = 2, last: int = _LAST) -> str:
 
 
 def explain_json(trace: str | bytes, first: int = 2, last: int = _LAST) -> str:
-    """The same in lines of JSON: an object of the pool, one of each event of these lines, and one of the state behind the last."""
+    """Rows as lines of JSON: an object of the pool, one of each event of these lines, and one of the state behind the last."""
     return _text(_library.explain_json, trace, first, last)
 
 

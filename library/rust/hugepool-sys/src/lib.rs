@@ -211,7 +211,7 @@ extern "C" {
     pub fn hugepool_explain(trace: *const u8, length: usize, out: *mut u8, room: usize, needed: *mut usize, line: *mut u32) -> u32;
     /// The rows of some of its lines, and then the state behind the last.
     pub fn hugepool_explain_rows(trace: *const u8, length: usize, first: u32, last: u32, out: *mut u8, room: usize, needed: *mut usize, line: *mut u32) -> u32;
-    /// The same in lines of JSON.
+    /// The rows of some lines as lines of JSON.
     pub fn hugepool_explain_json(trace: *const u8, length: usize, first: u32, last: u32, out: *mut u8, room: usize, needed: *mut usize, line: *mut u32) -> u32;
     /// The trace that a text in the loose form asks for.
     pub fn hugepool_format(text: *const u8, length: usize, out: *mut u8, room: usize, needed: *mut usize, line: *mut usize) -> u32;

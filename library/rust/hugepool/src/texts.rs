@@ -83,7 +83,7 @@ pub fn explain_rows(trace: &[u8], first: u32, last: u32) -> Result<String, BadTr
     text_of_lines(sys::hugepool_explain_rows, trace, first, last)
 }
 
-/// The same in lines of JSON: an object of the pool, one of each event of these lines, and one of the state behind the last.
+/// Rows as lines of JSON: an object of the pool, one of each event of these lines, and one of the state behind the last.
 pub fn explain_json(trace: &[u8], first: u32, last: u32) -> Result<String, BadTrace> {
     text_of_lines(sys::hugepool_explain_json, trace, first, last)
 }
