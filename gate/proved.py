@@ -1,12 +1,12 @@
 #!/usr/bin/env python3
-"""Compares docs/PROVED.md with the contracts: each call and clause that a row names is there, and each clause of a public call is named.
+"""Compares docs/PROVED.md with the contracts: what a row names is there, and each clause of a public call is named.
 
-A row's second column names calls: `hp_frames::Bank::{take, free}`, or `Bank::take` below the heading of its crate; `Bank`'s calls, the
-invariant of a `Bank`, its `Display`, the same (as in the row before), and `..` for all public ones. Behind "in" stands the file. Its
-third names clauses: `after`, `ok`; its contract; clauses without a name; its type. Each name is a clause of one of the row's calls, or a
-definition that one of its clauses cites, and each call has one of them. In parentheses stand definitions, which have to be in specs. What
-the tables leave out stands below "What isn't listed". Compared are also the theorems that no call of the core is named after, and the
-clauses that docs/POOL.md names.
+A row's second cell has groups between semicolons: calls, and behind a colon their clauses. A group without a colon names whole contracts.
+`Bank::{take, free}` are two calls of the crate below whose heading the row stands, `hp_frames::Bank::take` is one of another crate.
+`Bank::{..}` are all public calls of a type, `..` all of the crate. `Bank::invariant` and `Display::output` are what an impl says besides.
+A clause is one of a call of its group, or a definition that such a clause cites; each call of the group has one. "Its type" is no clause.
+In parentheses stand definitions, which have to be in specs. What the tables leave out stands below "What isn't listed". Compared are also
+the theorems that no call of the core is named after, and the clauses that docs/POOL.md names.
 """
 from __future__ import annotations
 
@@ -24,9 +24,8 @@ LIST = "What isn't listed"
 POOL_CALL = re.compile(r"\(`([\w:]+)`: ((?:`\w+`(?:,\s)?)+)")
 SPAN = re.compile(r"`([^`]+)`")
 ASIDE = re.compile(r" \(([^()]*)\)")
-TYPE = re.compile(r"\b(?:its type|their types)(?: and `requires`)?")
-UNNAMED = re.compile(r"\bclauses without a name\b")
-CONTRACT = re.compile(r"\b(?:its contract|their contracts)\b")
+NO_CALL = re.compile(r"^Without a call of their name: (.*?)\n\n", re.M | re.S)
+TYPE = re.compile(r"\b(?:its type|their types)\b")
 CLAUSE = re.compile(r"^ *ensures(?: (\w+))? \{", re.M)
 REEXPORT = re.compile(r"^pub use ([^;]+);", re.M)
 DEFINITION = re.compile(r"^ *(?:(?:abbrev|unfoldable) )?pub (?:record |data )?([^\s:{(]+)", re.M)
@@ -103,42 +102,31 @@ def is_on_surface(it: Function) -> bool:
 
 
 @cache
-def definitions() -> dict[str, set[str]]:
-    """The files in which specs define each name."""
-    found: dict[str, set[str]] = {}
-    for file in sorted(CRATES.glob("*/specs/**/*.antt")):
-        for name in DEFINITION.findall(file.read_text(encoding="utf-8")):
-            found.setdefault(name, set()).add(str(file.relative_to(CRATES)))
-    return found
+def definitions() -> frozenset[str]:
+    """The names that specs define."""
+    return frozenset(it for file in CRATES.glob("*/specs/**/*.antt") for it in DEFINITION.findall(file.read_text(encoding="utf-8")))
 
 
-def is_defined(name: str, path: str = "") -> bool:
-    return any(file.endswith(path) for file in definitions().get(name.rpartition(".")[2], ()))
+def is_defined(name: str) -> bool:
+    return name.rpartition(".")[2] in definitions()
 
 
 class Row(NamedTuple):
     crate: str
     promise: str
-    calls: str
-    clauses: str
+    groups: list[str]
+    asides: list[str]
 
 
 def rows(page: str) -> Iterator[Row]:
-    """The rows below the headings of crates, and of the list of what isn't in them; the same stands for what the row before has."""
-    crate, before = None, None
+    """The rows below the headings of crates, and of the list of what isn't in them."""
+    crate = None
     for line in page.splitlines():
         if line.startswith("## "):
             crate = line[3:] if line[3:] in crates_of() else "" if line[3:] == LIST else None
         cells = line.strip("| ").split(" | ")
-        if crate is None or not line.startswith("| ") or len(cells) != 3 or cells[2] == "Clause":
-            continue
-        promise, calls, clauses = cells
-        if before and calls == "the same":
-            calls = before.calls
-        if before and clauses.startswith("the same"):
-            clauses = ASIDE.sub("", before.clauses) + clauses.removeprefix("the same")
-        before = Row(crate, promise, calls, clauses)
-        yield before
+        if crate is not None and line.startswith("| ") and len(cells) == 2 and not cells[0] == "Promise":
+            yield Row(crate, cells[0], ASIDE.sub("", cells[1]).split("; "), ASIDE.findall(cells[1]))
 
 
 def found(path: str, crate: str) -> list[Function]:
@@ -147,60 +135,48 @@ def found(path: str, crate: str) -> list[Function]:
     if above and above[0] in crates_of():
         crate, *above = above
     owner = above[-1] if above else None
+    if name == "..":
+        return [it for it in contracts(crate) if is_on_surface(it) and it.clauses and owner in (None, it.type or it.trait)]
     named = [it for it in contracts(crate) if it.name == name] if crate else []
     of = [it for it in named if owner == it.type] or [it for it in named if owner and owner in (it.trait, Path(it.file).stem)]
     return [it for it in of if it.type is None] or of
 
 
-def calls_of(row: Row) -> Iterator[tuple[str, list[Function]]]:
-    """The calls that a row names, each with the functions that it may be."""
-    for part in row.calls.split("; "):
-        if part == "its `Display`":
-            yield part, [it for it in contracts(row.crate) if it.name == "output"]
-        elif made := re.fullmatch(r"`(?:(hp_\w+)::)?(\w+)`'s calls", part):
-            yield from ((str(it), [it]) for it in contracts(made[1] or row.crate) if it.type == made[2] and it.is_public and it.clauses)
-        elif made := re.fullmatch(r"the invariant of a `(?:\w+::)?(\w+)`", part):
-            yield part, found(f"{made[1]}::invariant", row.crate)
-        else:
-            names, _, file = part.partition(" in `")
-            spans = (span.partition("{") for span in SPAN.findall(names))
-            paths = [head + it.strip() for head, _, several in spans for it in several.rstrip("}").split(",")]
-            for it in (it for it in paths if not it.endswith("..")):
-                yield it, [one for one in found(it, row.crate) if not file or one.file == file.rstrip("`")]
-            yield from ((str(it), [it]) for it in contracts(row.crate) if paths[-1].endswith("..") and is_on_surface(it))
+def calls_of(calls: str, crate: str) -> Iterator[tuple[str, list[Function]]]:
+    """The calls that a group names, each with the functions that it may be."""
+    for span in SPAN.findall(calls):
+        head, _, several = span.partition("{")
+        for path in (head + it.strip() for it in several.rstrip("}").split(",")):
+            yield path, found(path, crate)
 
 
 def faults(row: Row, named: dict[Function, set[str]]) -> Iterator[str]:
     """What is wrong with a row. What it names of its calls is noted."""
-    calls, listed = [*calls_of(row)], ASIDE.sub("", row.clauses)
-    names = SPAN.findall(TYPE.sub("", listed))
-    yield from (f"there is no {path}" for path, several in calls if not several)
-    for name in names:
-        # (of `take` `within`: a clause of one of the calls)
-        if not any(it.name == name or it.meant(name) for _, several in calls for it in several):
-            yield f"no call has a clause {name}"
-    for path, several in calls:
-        own = {clause for it in several for name in names for clause in it.meant(name)}
-        own |= {clause for it in several for clause in it.names() if CONTRACT.search(listed) or UNNAMED.search(listed) and not clause}
-        for it in several:
-            named.setdefault(it, set()).update(own)
-        if not own and not TYPE.search(listed) and "'s calls" not in row.calls:
-            yield f"no clause is named of {path}"
-    for aside in map(SPAN.findall, ASIDE.findall(row.clauses)):
-        for at, name in enumerate(aside):
-            path = next((it for it in aside[at + 1:] if it.endswith(".antt")), "")
-            is_clause = not path and any(it.meant(name) for _, several in calls for it in several)
-            if re.fullmatch(r"\w+", name) and not is_defined(name, path) and not is_clause:
-                yield f"{path or 'the specs'} have no {name}"
+    for group in row.groups:
+        calls, colon, clauses = group.partition(": ")
+        several, names = [*calls_of(calls, row.crate)], SPAN.findall(clauses)
+        every = [it for _, functions in several for it in functions]
+        yield from [] if several else [f"no call is named in {group}"]
+        yield from (f"no call has a clause {name}" for name in names if not any(it.meant(name) for it in every))
+        for path, functions in several:
+            own = {clause for it in functions for name in names for clause in it.meant(name)}
+            own |= {clause for it in functions for clause in it.names() if not colon}
+            for it in functions:
+                named.setdefault(it, set()).update(own)
+            if not functions:
+                yield f"there is no {path}"
+            elif not own and not TYPE.search(clauses):
+                yield f"no clause is named of {path}"
+    yield from (f"the specs have no {it}" for aside in row.asides for it in SPAN.findall(aside) if not is_defined(it))
 
 
 def inherited(page: str) -> Iterator[str]:
-    """What is wrong with the table of theorems that no call of the core has by their names."""
-    listed = set(re.findall(r"`(\w+)`", "".join(re.findall(r"^\| ((?:`\w+`(?:, )?)+) \| [^|]*\|$", page, re.M))))
+    """What is wrong with the theorems that no call of the core is said to be named after."""
+    listed = set(SPAN.findall("".join(NO_CALL.findall(page))))
     theorems = {it.name for it in contracts("hp_laws") if is_on_surface(it)}
     own = {it.name for it in contracts("hp_core") if it.type == "Core" and it.is_public}
     yield from (f"hp_core: {it} is no theorem without a call of its name" for it in sorted(listed - (theorems - own)))
-    yield from (f"hp_core: no call is named {it}, and no row says so" for it in sorted(theorems - own - listed))
+    yield from (f"hp_core: no call is named {it}, and the page doesn't say so" for it in sorted(theorems - own - listed))
 
 
 def pool_faults(page: str) -> Iterator[str]:
