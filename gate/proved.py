@@ -3,7 +3,7 @@
 
 A row's second cell has groups between semicolons: calls, and behind a colon their clauses. A group without a colon names whole contracts.
 `Bank::{take, free}` are two calls of the crate below whose heading the row stands, `hp_frames::Bank::take` is one of another crate.
-`Bank::{..}` are all public calls of a type, `..` all of the crate. `Bank::invariant` and `Display::output` are what an impl says besides.
+`Bank::{..}` are all public calls of a type, `..` all of the crate. `Bank::invariant` and `Display` are what an impl says besides.
 A clause is one of a call of its group, or a definition that such a clause cites; each call of the group has one. "Its type" is no clause.
 In parentheses stand definitions, which have to be in specs. What the tables leave out stands below "What isn't listed". Compared are also
 the theorems that no call of the core is named after, and the clauses that docs/POOL.md names.
@@ -131,7 +131,7 @@ def rows(page: str) -> Iterator[Row]:
 
 def found(path: str, crate: str) -> list[Function]:
     """The functions of this name, in the crate that it begins with or else in the row's."""
-    *above, name = path.split("::")
+    *above, name = path.replace("Display", "Display::output").split("::")
     if above and above[0] in crates_of():
         crate, *above = above
     owner = above[-1] if above else None
