@@ -5,8 +5,8 @@ usage: gate/page.py           says whether files are what it would write, and tr
                               that are there
        gate/page.py --write   writes them
 
-docs/INDEX.md has of each operation its phases as a graph, and of each phase its row, the function that does it, the lemma that says what
-it writes, and its mutants. The graph is read from the rows in crates/hp_machine/specs, and not from the tables of docs/MACHINE.md: the
+docs/INDEX.md has of each operation its phases as a graph, and of each phase its mutants; that its row, its function and its lemma have the
+names that follow from it is looked at. The graph is read from the rows in crates/hp_machine/specs, and not from the tables of docs/MACHINE.md: the
 contracts of the code cite the rows. A row is read as far as its outcomes go (`Goes`, `Ends`, a lock or a slot that is looked at), through
 the rows that operations share (Parts.antt).
 
@@ -19,6 +19,7 @@ import shutil
 import subprocess
 import sys
 import tempfile
+import textwrap
 from functools import cache
 from pathlib import Path
 from typing import Iterator, NamedTuple
@@ -35,19 +36,18 @@ STEPS = {
 DID = {"exit": "UnmapDid"}
 HEAD = """# Where each phase is
 
-Of each operation the graph of its phases, and a line for each phase: its row, its function, the
-lemma that says what the row writes, and its mutants.
+Of each operation the graph of its phases, and below it each phase's mutants (`must-fail/` or `edits/`
+of the function's crate), for whoever changes or compares a phase. An arrow shows where a step may
+lead, with the answer that the call carries from there. A box has what a step waits for, and the
+answers with which the call ends. "May want memory": denied memory, a step may lead elsewhere.
 
-An arrow shows where a step may lead, with the answer that the call carries from there. A phase's box
-has what a step waits for, and the answers with which the call ends. "May want memory" means that a
-step that is denied memory may lead elsewhere. The rows are the source of the graphs:
+| What | Touch, look |
+|---|---|
+| row, in `crates/hp_machine/specs/` | `TouchLookRow` in `TouchRows.antt` |
+| function, in `crates/hp_fault/src/` or `crates/hp_remove/src/` | `from_look` in `touch.rt` |
+| lemma on what the row writes, in `crates/hp_laws/proofs/` | `touch_did` in `TouchDid.antt` (an exit's in `UnmapDid.antt`) |
 
-- rows: `crates/hp_machine/specs/`;
-- functions: `crates/hp_fault/src/` or `crates/hp_remove/src/`;
-- lemmas: `crates/hp_laws/proofs/`. `Fits.antt` there proves that each write keeps the invariant;
-- mutants: `must-fail/` or `edits/` of the function's crate. The prover must reject each.
-
-`gate/page.py --write` writes this page.
+`gate/page.py --write` writes this page from the rows.
 """
 SPECS = CRATES / "hp_machine" / "specs"
 DEFINITION = re.compile(r"^(\w+Row)((?: \w+)+) =(.*?)(?=\n\n|\Z)", re.M | re.S)
@@ -182,14 +182,14 @@ def told(names: list[str]) -> str:
 def graph(operation: str) -> str:
     """The phases of an operation as a graph in Mermaid's words."""
     rows = {it: row_of(operation, it) for it in phases(operation)}
-    lines = ["```mermaid", "flowchart TD", f'    begin(["{operation} begins"]) --> {next(iter(rows))}']
+    lines = ["```mermaid", "flowchart TD", f'    begin(["{operation} begins"])-->{next(iter(rows))}']
     for name, row in rows.items():
         notes = [f"waits for {told(row.waits)}"] * bool(row.waits) + ["may want memory"] * row.asks
         notes += [f"ends: {told(row.ends)}"] * bool(row.ends)
         lines.append(f'    {name}["{"<br>".join([f"<b>{name.lower()}</b>", *notes])}"]')
         for target in sorted(row.goes, key=list(rows).index):
-            label = f'|"{told(row.goes[target])}"| ' if row.goes[target] else ""
-            lines.append(f"    {name} --> {label}{target}")
+            label = f'|"{told(row.goes[target])}"|' if row.goes[target] else ""
+            lines.append(f"    {name}-->{label}{target}")
     return "\n".join([*lines, "```", ""])
 
 
@@ -212,13 +212,12 @@ def function_of(operation: str, phase: str) -> str:
     return step
 
 
-def lemma_of(operation: str) -> str:
-    """The lemma that says what the operation's rows write."""
+def check_lemma(operation: str) -> None:
+    """Stops where there is no lemma that says what the operation's rows write."""
     file, name = DID.get(operation, f"{operation.capitalize()}Did"), f"{operation}_did"
     text = (CRATES / "hp_laws" / "proofs" / f"{file}.antt").read_text(encoding="utf-8")
     if not re.search(rf"^pub {name} :", text, re.M):
         raise SystemExit(f"page: {file}.antt has no lemma {name}")
-    return f"`{file}.{name}`"
 
 
 def edits_of(crate: str) -> dict[Function, list[str]]:
@@ -236,13 +235,13 @@ def index() -> str:
     out = [HEAD]
     for operation, crate in STEPS.items():
         out.append(f"\n## {operation.capitalize()}\n\n{graph(operation)}\n")
-        out.append("| Phase | Row | Function | Lemma | Mutants |\n|---|---|---|---|---|\n")
+        check_lemma(operation)
         for phase in phases(operation):
             name = function_of(operation, phase)
             own = edits[crate].get(Function((operation,), None, None, name), [])
-            tried = ", ".join(f"`{it}`" for it in sorted(own))
-            cells = [phase.lower(), f"`{operation.capitalize()}{phase}Row`", f"`{operation}::{name}`", lemma_of(operation), tried]
-            out.append(f"| {' | '.join(cells)} |\n")
+            function = "" if name == f"from_{phase.lower()}" else f" (in `{name}`)"
+            line = f"- {phase.lower()}{function}: {', '.join(f'`{it}`' for it in sorted(own))}"
+            out.append(textwrap.fill(line, WIDE, subsequent_indent="  ", break_on_hyphens=False) + "\n")
     return "".join(out)
 
 
