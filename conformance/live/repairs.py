@@ -5,7 +5,7 @@ usage: repairs.py [--all]
 
 A race has one index, one or two frames and three tasks. Its calls are made in every order of their steps; a frame that was evicted
 becomes free at any moment, and in some sets a page may be refused memory where it is placed. `judge` says what is asked of each state at
-rest. With --all every race is made (docs/LINUX.md has the table), else a few in some seconds. Status: 0 no count is wrong by the rows that
+rest. With --all every race is made (docs/LINUX.md says what came), else a few in some seconds. Status: 0 no count is wrong by the rows that
 `SETS` calls right, and some is by each other set; 1 it isn't so.
 """
 from __future__ import annotations
