@@ -49,3 +49,10 @@ searches request.Audit = false
 abbrev pub status_of_loose : (is_search : Bool) → ℕ
 status_of_loose true = 2
 status_of_loose false = 1
+
+-- the status where the input can't be opened
+abbrev pub status_unopened : Request → ℕ
+status_unopened (request.Trace r) = 1
+status_unopened (request.Script r) = status_of_loose (searches_script r)
+status_unopened (request.Pool r) = 1
+status_unopened request.Audit = 2

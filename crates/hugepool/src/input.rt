@@ -1,4 +1,5 @@
 //! What a command reads: standard input, or the file that its words name.
+use crate::stop::status_unopened;
 use hp_command::{Asked, Input};
 use std::fs::File;
 use std::io;
@@ -61,26 +62,26 @@ pub(crate) fn file_of(input: &Input) -> Option<&str> {
     }
 }
 
-/// What is asked for is opened. If the file can't be opened, that is reported, and there
-/// is none.
+/// What is asked for is opened. If the file can't be opened, that is reported, and the program's status returned.
 pub(crate) fn open_input(
     rt: &HostRuntime,
     asked: &Result<Asked, clap::Error>,
     faults: &mut impl Write,
-) -> Option<Opened> {
+) -> Result<Opened, u8> {
     let Ok(asked) = asked else {
-        return Some(Opened::Standard(rt.stdin()));
+        return Ok(Opened::Standard(rt.stdin()));
     };
+    let status = status_unopened(&asked.request);
     match &asked.input {
-        Input::File(path) => Some(Opened::File(open_file(rt, path.as_str(), faults)?)),
-        Input::Before(path) => Some(Opened::Before(Before {
-            file: open_file(rt, path.as_str(), faults)?,
+        Input::File(path) => Ok(Opened::File(open_file(rt, path.as_str(), status, faults)?)),
+        Input::Before(path) => Ok(Opened::Before(Before {
+            file: open_file(rt, path.as_str(), status, faults)?,
             is_over: false,
             is_ended: true,
             stdin: rt.stdin(),
         })),
-        Input::Nothing => Some(Opened::Standard(rt.stdin())),
-        Input::Standard => Some(Opened::Standard(standard(rt, faults))),
+        Input::Nothing => Ok(Opened::Standard(rt.stdin())),
+        Input::Standard => Ok(Opened::Standard(standard(rt, faults))),
     }
 }
 
@@ -93,13 +94,18 @@ fn standard(rt: &HostRuntime, faults: &mut impl Write) -> Stdin {
     stdin
 }
 
-// The file of that name.
-fn open_file(rt: &HostRuntime, path: &str, faults: &mut impl Write) -> Option<File> {
+// The file of that name, or this status.
+fn open_file(
+    rt: &HostRuntime,
+    path: &str,
+    status: u8,
+    faults: &mut impl Write,
+) -> Result<File, u8> {
     match File::open(rt, path) {
-        Ok(file) => Some(file),
+        Ok(file) => Ok(file),
         Err(error) => {
             let _ = writeln!(faults, "hugepool: {path}: {error}");
-            None
+            Err(status)
         }
     }
 }

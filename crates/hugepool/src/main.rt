@@ -36,8 +36,9 @@ fn main(rt: HostRuntime) -> io::Result<ExitCode> {
         Err(why) => return Ok(ExitCode::from(end_without(why, &mut faults))),
     };
     let asked = read_words(rt.alloc(), words.as_slice(), rt.stdin().is_terminal());
-    let Some(input) = open_input(&rt, &asked, &mut faults) else {
-        return Ok(ExitCode::from(1));
+    let input = match open_input(&rt, &asked, &mut faults) {
+        Ok(input) => input,
+        Err(status) => return Ok(ExitCode::from(status)),
     };
     let mut reader = Recalling::new(Watched::new(Noted::new(input)));
     let palette = chosen_palette(&rt, &asked);

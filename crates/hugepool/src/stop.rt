@@ -6,7 +6,7 @@ ghost use Rattle.hp_program.specs.Answers.{status_of_runs, status_of_text};
 ghost use Rattle.hp_script_commands.specs.Hunting.{status_of_hunt};
 ghost use Rattle.hp_script_commands.specs.Searching.{status_of_every};
 ghost use Rattle.hp_trace_commands.specs.Formatting.{status_of_format};
-ghost use Rattle.hugepool.specs.Status.{searches, status_at, status_of, status_of_loose};
+ghost use Rattle.hugepool.specs.Status.{searches, status_at, status_of, status_of_loose, status_unopened};
 
 use hp_command::{Request, ScriptRequest};
 use hp_format::LooseFault;
@@ -159,6 +159,17 @@ pub(crate) fn searches(request: &Request) -> bool
                 | ScriptRequest::ScheduleEvery(_)
         )
     )
+}
+
+/// Where the input can't be opened: a command whose status 1 is an answer couldn't tell.
+pub(crate) fn status_unopened(request: &Request) -> u8
+    ensures { result ≡ status_unopened request.now }
+{
+    if searches(request) || matches!(request, Request::Audit) {
+        2
+    } else {
+        1
+    }
 }
 
 /// Of a text in the loose form that can't be read.
