@@ -36,10 +36,11 @@ STEPS = {
 DID = {"exit": "UnmapDid"}
 HEAD = """# Where each phase is
 
-Of each operation the graph of its phases, and below it each phase's mutants (`must-fail/` or `edits/`
-of the function's crate), for whoever changes or compares a phase. An arrow shows where a step may
-lead, with the answer that the call carries from there. A box has what a step waits for, and the
-answers with which the call ends. "May want memory": denied memory, a step may lead elsewhere.
+Of each operation the graph of its phases, and below it each phase's mutants (`must-fail/` or
+`edits/` of the function's crate), for whoever changes or compares a phase. An arrow shows where a
+step may lead, with the answer that the call carries from there. A box has what a step waits for,
+and the answers with which the call ends. "May want memory": denied memory, a step may lead
+elsewhere.
 
 | What | Touch, look |
 |---|---|
