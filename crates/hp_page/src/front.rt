@@ -209,13 +209,13 @@ summary { cursor: pointer; color: var(--accent); }
 </ul>
 <section id="help" class="own-keys" aria-labelledby="help-title" hidden>
   <h2 id="help-title">The picture</h2>
-  <p>Time runs to the right, an event of the trace a step; the numbers at the top are those of the trace's lines. Each task that the trace
-    mentions has a lane. The lane <i>pool</i> is for events of no task: a resize, and events of tasks that aren't there. Below are the counts
-    behind each event. The legend above says what colours, marks and curves are.</p>
-  <p>A box is a call in a phase, in the colour of the call. Where several boxes share a pixel it has the colour of the last one, and the
-    hatch stands where waits take at least half of it. Where marks have no room for their shapes, a tick is as high as their share of the
-    lane's events in its pixel. Where events share pixels, a curve is a band from its least to its greatest value there, and what is owed
-    isn't filled.</p>
+  <p>Time runs to the right, one step for each event. The numbers at the top are lines of the trace. Each task that the trace mentions has a
+    lane; the lane <i>pool</i> has resizes, and events of tasks that the pool doesn't have. Below the lanes are the counts after each event.
+    The legend above explains colours, marks and curves.</p>
+  <p>A box is a call in a phase, in the colour of the call. If several boxes share a pixel, it has the colour of the last one, and a hatch if
+    waits take at least half of it. If marks are too close for their shapes, a bar stands for them: the more of the events there they mark,
+    the higher it is. If events share pixels, a curve is a band from its least to its greatest value there, and what calls owe isn't
+    filled.</p>
   <h2>Keys</h2>
   <dl class="keys">
     <dt><kbd>&larr;</kbd> <kbd>&rarr;</kbd></dt><dd>the event before, the next event</dd>
