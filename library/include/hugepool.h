@@ -9,22 +9,21 @@
  * ordered (by a lock, say): a call uses what the handle points to, the heap, and nothing that belongs to a thread. Different pools may be
  * used at the same time. (This is argued, not proved; malloc and free have to be such, too.)
  *
- * Codes: each call answers HUGEPOOL_OK or a code. After a code the pool is as it was, and so is what a call would have told, but for
- * *needed, *line and *done, and for the events that hugepool_events made before it stopped. Numbers that name nothing are refused by a
- * code, whatever they are.
+ * Codes: each call returns HUGEPOOL_OK or another code. If it returns another code, the pool and your buffers are unchanged, but for
+ * *needed, *line and *done, and for the events that hugepool_events made before it stopped. Numbers that name nothing are rejected.
  *
- * const: a pool that is given as const is the same after the call. While it runs, it uses the handle's bytes, so the object that you keep
- * isn't const itself.
+ * const: a call leaves a pool that it takes as const unchanged. While it runs it uses the handle's bytes, so don't define the object that
+ * you keep as const.
  *
- * What a call owes is what C's types can't say: pointers aren't null and point to what they are declared to, or to as many as the count
- * beside them says (a count of 0 wants a pointer, too); two of them don't overlap; a bool is 0 or 1.
+ * You have to see to what C's types can't express: pointers aren't null, and point to what they are declared to, or to as many as the count
+ * beside them says (also if that is 0); two of them don't overlap; a bool is 0 or 1.
  *
- * What each call promises is proved, but for this (docs/LIBRARY.md says of what it is proved, and what is trusted):
- * - what the words of hugepool_reason and hugepool_format_reason say, and of which lines the first knows any;
- * - that memory is wanting where a call says so other than hugepool_event and hugepool_events;
+ * What each call promises is proved, with these exceptions (docs/LIBRARY.md says of what it is proved, and what is trusted):
+ * - what hugepool_reason and hugepool_format_reason write, and for which lines hugepool_reason knows a reason;
+ * - that there is no memory if a call other than hugepool_event and hugepool_events says so;
  * - that memory is given back: by hugepool_close, by a call that opens or copies into a pool that was open, and by any call that fails.
  *   That is tested, with sanitizers.
- * The names behind "---- names" are no calls of the library, but text of this header.
+ * The names below "---- names" are text of this header, no calls of the library.
  *
  * The ABI: the soname libhugepool.so.1 stands for it. While it stays, no call, number or field that is here changes or goes; a new
  * version may add calls, constants, and codes of calls that are new. A struct never grows: a call that tells more has another name.

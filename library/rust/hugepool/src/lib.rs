@@ -1,4 +1,4 @@
-//! A pool of huge pages as Linux's hugetlbfs keeps it: the proved libhugepool, by a face that owes nothing.
+//! A pool of huge pages as Linux's hugetlbfs keeps it: the proved libhugepool, behind a safe interface.
 //!
 //! ```
 //! use hugepool::{Event, Op, Pool};
