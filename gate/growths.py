@@ -189,8 +189,9 @@ def cases() -> Iterator[Case]:
     for kind, words in ((kind, words) for kind, several in WORDS.items() for words in several):
         command = words.split()[0]
         alike = "header" if words == "race --trace" else "races" if command == "race" else "all"
-        starts = command == "race" or explores and command == "explore"
-        yield Case(words, SMALL if command in ("find", "minimize") else reads[kind], alike, starts=starts, status=status_of(words))
+        is_search = command in ("find", "minimize") or "--every" in words
+        starts = command == "race" or explores and command == "explore" and not is_search
+        yield Case(words, SMALL if is_search else reads[kind], alike, starts=starts, status=status_of(words))
     yield Case("find --seed 7 --answer 1:2=beyond", script, starts=explores, status=2)
     yield Case("minimize --answer 1:2=beyond", example("truncate-overtakes-a-store.trace"), status=2)
     for words in ("replay --help", "nothing", "replay --all", "explain --lines 4..3", "explain --tasks 65", "format", "step"):
