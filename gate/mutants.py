@@ -4,8 +4,8 @@
 usage: ./check mutants [CRATE ..] [--all] [--each]
 
 Of crates that are named it tries all mutants. Without a name it tries those of each crate of which a commit since the time in
-gate/tried.txt changed more than comments in src/, specs/, edits/, must-fail/ or must-not-compile/, or that has any change there uncommitted. With --all it
-tries all. Where all of a crate are refused, and none of its files is changed, the time at which the trial began stands in that file then:
+gate/tried.txt changed more than comments in src/, specs/, edits/, must-fail/ or must-not-compile/, or that has any change there
+uncommitted. With --all it tries all. Where all of a crate are refused, and none of its files is changed, the time at which the trial began stands in that file then:
 first that of all, and behind it those of crates that were tried later.
 
 The mutants of a crate stand in its folders must-fail/ (those that the toolchain's gate tries too), edits/ and must-not-compile/
@@ -169,7 +169,8 @@ def due(top: Path, tried: str, every: set[str]) -> set[str]:
         if git(top, "rev-parse", "--is-shallow-repository").strip() == "true":
             return every
         # (a merge is shown as what it brought to the branch, at its own time)
-        shown = ("log", "--first-parent", "-m", "--name-only", "--format=@%cI", f"-G{SAYS}", f"--since-as-filter={since.isoformat()}", "--", "crates")
+        which = (f"-G{SAYS}", f"--since-as-filter={since.isoformat()}", "--", "crates")
+        shown = ("log", "--first-parent", "-m", "--name-only", "--format=@%cI", *which)
         changed = {made[1] for made in OWN.finditer(git(top, "status", "--porcelain", "--untracked-files=all", "--", "crates"))}
         for commit in git(top, *shown).split("@")[1:]:
             time, _, files = commit.partition("\n")

@@ -57,7 +57,7 @@ HOLDERS = {"s.locks": "the file lock", "s.slots": "the slot"}
 CARRIED = {"p.answer", "carried"}
 PAGE, SOURCES = CRATES / "hp_page" / "page", CRATES / "hp_page" / "src"
 # what stands where page.html says {{..}}
-PIECES = {"style": ["viewer.css", "page.css"], "legend": ["legend.html"], "help": ["help.html"]}
+PIECES = {"style": ["viewer.css", "page.css"], "legend": ["legend.html"], "help": ["help.html"], "search": ["search.html"]}
 # the script's files, by the constants that hold them
 SCRIPTS = (
     ("run.js", "moments.js", "search.js"),

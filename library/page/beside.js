@@ -27,7 +27,8 @@ function partingWords(place) {
 
 function makeBeside(place) {
   const cells = [kept, trace].flatMap(({ lines, outcomes }) => [lines[place] ?? "", outcomes[place - 1] ?? ""]);
-  const row = element("div", { className: "row", role: "option", title: cells.join("\n") }, ...[`${place + 1}`, ...cells].map((it) => element("span", { textContent: it })));
+  const parts = [`${place + 1}`, ...cells].map((it) => element("span", { textContent: it }));
+  const row = element("div", { className: "row", role: "option", title: cells.join("\n") }, ...parts);
   if (kept.lines[place] !== trace.lines[place]) row.classList.add("differs");
   return row;
 }

@@ -241,8 +241,7 @@ def page(of: Module, wasm: bytes) -> str:
     data = {"header": header(), "examples": examples(), "linux": linux(), "origin": origin_of(of, wasm), "wasm": base64.b64encode(wasm).decode()}
     parts = {
         "style": "".join(it.read_text(encoding="utf-8") for it in STYLES),
-        "legend": (VIEWER / "legend.html").read_text(encoding="utf-8"),
-        "help": (VIEWER / "help.html").read_text(encoding="utf-8"),
+        **{it: (VIEWER / f"{it}.html").read_text(encoding="utf-8") for it in ("legend", "help", "search")},
         "data": json.dumps(data, ensure_ascii=False, separators=(",", ":")).replace("</", "<\\/"),
         "script": script(),
     }

@@ -77,7 +77,8 @@ const addressOf = async () => `${location.href.split("#")[0]}#${await placeName(
 async function copyAddress() {
   const address = await addressOf();
   if (address.length > MOST_ADDRESS) {
-    return tell(`The link would have ${address.length.toLocaleString("en")} characters, and browsers take ${MOST_ADDRESS.toLocaleString("en")}: save a file instead.`);
+    const [has, most] = [address.length, MOST_ADDRESS].map((it) => it.toLocaleString("en"));
+    return tell(`The link would have ${has} characters, and browsers take ${most}: save a file instead.`);
   }
   history.replaceState(null, "", address);
   return copyText(address, "The link is copied; it also stands in the address.");

@@ -16,7 +16,8 @@ function makeLine(place) {
   const isBad = fault !== null && place === fault.line - 1;
   const outcome = isBad ? fault.why : (outcomes[place - 1] ?? "");
   const parts = [`${place + 1}`, lines[place], outcome].map((it) => element("span", { textContent: it }));
-  const row = element("div", { className: isBad ? "row bad" : place > trace.count ? "row unmade" : "row", role: "option", title: `${lines[place]}: ${outcome}` }, ...parts);
+  const className = isBad ? "row bad" : place > trace.count ? "row unmade" : "row";
+  const row = element("div", { className, role: "option", title: `${lines[place]}: ${outcome}` }, ...parts);
   if (outcome.startsWith("blocked")) parts[2].className = "blocked";
   row.setAttribute("aria-setsize", lines.length);
   row.setAttribute("aria-posinset", place + 1);
@@ -59,7 +60,8 @@ function show() {
 }
 
 function showNow() {
-  const title = at === 0 ? ["Before the first event"] : [`After line ${at + 1}, `, element("code", { textContent: trace.lines[at] }), `: ${trace.outcomes[at - 1]}`];
+  const line = () => element("code", { textContent: trace.lines[at] });
+  const title = at === 0 ? ["Before the first event"] : [`After line ${at + 1}, `, line(), `: ${trace.outcomes[at - 1]}`];
   $("now").replaceChildren(...title, element("span", { className: "soft", textContent: ` (event ${at} of ${trace.count})` }));
 }
 
@@ -76,7 +78,9 @@ function showPool(pool) {
     ["audit", found === 0 ? "ok" : `wrong: ${words.findings[found]}`, found === 0 ? "good" : "hot"],
   ];
   $("counts").replaceChildren(
-    ...counts.map(([name, count, className = ""]) => element("div", {}, element("dt", { textContent: name }), element("dd", { textContent: count, className }))),
+    ...counts.map(([name, count, className = ""]) =>
+      element("div", {}, element("dt", { textContent: name }), element("dd", { textContent: count, className })),
+    ),
   );
   showBar(pool);
 }
@@ -142,7 +146,15 @@ function showExample(name) {
 }
 
 function showOrigin() {
-  const names = { commit: "commit", proof: "toolchain's verdict", toolchain: "toolchain", archive: "sha256 of libhp_c.a", module: "LLVM module", wasm: "sha256 of the WebAssembly", bytes: "its size" };
+  const names = {
+    commit: "commit",
+    proof: "toolchain's verdict",
+    toolchain: "toolchain",
+    archive: "sha256 of libhp_c.a",
+    module: "LLVM module",
+    wasm: "sha256 of the WebAssembly",
+    bytes: "its size",
+  };
   const rows = Object.entries(data.origin).flatMap(([name, text]) => [element("dt", { textContent: names[name] }), element("dd", { textContent: text })]);
   $("origin").replaceChildren(...rows);
 }
@@ -188,7 +200,8 @@ function listenToPage() {
 function complain(why) {
   const missing = $("missing");
   missing.hidden = false;
-  missing.textContent = `${why} The page needs WebAssembly with a memory of 64 bits (memory64), which Chrome and Edge have from version 133 on, and Firefox from 134 on.`;
+  const from = "Chrome and Edge have from version 133 on, and Firefox from 134 on";
+  missing.textContent = `${why} The page needs WebAssembly with a memory of 64 bits (memory64), which ${from}.`;
 }
 
 async function begins() {

@@ -103,7 +103,8 @@ function showCard(task, tasks) {
   showCall(card, task, tasks.get(task));
   card.waits.replaceChildren(...(is_blocked ? [chainOf(task, tasks), ...sinceOf(task)] : []));
   card.waits.hidden = !is_blocked;
-  card.blocks.textContent = `holds back ${blocked.length > FEW_WAITS ? `${blocked.length} tasks` : `task${blocked.length === 1 ? "" : "s"} ${blocked.join(", ")}`}`;
+  const named = `task${blocked.length === 1 ? "" : "s"} ${blocked.join(", ")}`;
+  card.blocks.textContent = `holds back ${blocked.length > FEW_WAITS ? `${blocked.length} tasks` : named}`;
   card.blocks.hidden = blocked.length === 0;
   card.seen.textContent = `${plural(mappings, "mapping")}, ${plural(entries, "translated page")}`;
   for (const it of [card.step, card.deny]) setOff(it, !isInCall || is_blocked);

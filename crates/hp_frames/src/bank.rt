@@ -96,7 +96,8 @@ impl Bank {
     }
 
     /// Copies frames, words and counts into a bank of its own, for which it takes memory. A running pool whose journal
-    /// is cut keeps the core of its last cut so, to compare histories from there on. No frame may be in a hand, since its token could be given back to only one of the two banks.
+    /// is cut keeps the core of its last cut so, to compare histories from there on. No frame may be in a hand, since its
+    /// token could be given back to only one of the two banks.
     pub fn copy(&self, alloc: Global) -> Result<Bank, AllocError>
         requires { hand_count self.now ≡ 0 }
         ensures { IfOk result (λ copy. copy ≡ record self.now { capacity = copy.capacity }) }

@@ -6,8 +6,12 @@ use Rattle.std.specs.List.{list_all}
 use Rattle.hp_objects.specs.declared.places.Output.{Output}
 use Rattle.hp_objects.specs.declared.places.Output.TheVariants.{Explore, Find, Schedule, Minimize, Race, Work, WorkTrace, Check, Audit}
 use Rattle.hp_objects.specs.declared.places.Place.{Place}
-use Rattle.hp_objects.specs.declared.places.Place.TheVariants.{Pair, RunLine, TableLine, HeldUpLine, MetLine, FactLine, PoolLine, BeginLine, EventLine, ResizeLine, Workload, Finding, Key, Value, RunNumber, Ending, Position, HeldUp, Met, With}
-use Rattle.hp_objects.specs.declared.places.Place.TheVariants.{Runs, Worked, FirstCall, NextCall, Task, Call, Answer, Number, Frames, Files, Slots, Tasks, Quota, BeginTask, Operation, Numbers, More, EventTask, NewFrames, FindingLine, Wrong, MoreWrong}
+use Rattle.hp_objects.specs.declared.places.Place.TheVariants.{Pair, RunLine, TableLine, HeldUpLine, MetLine, FactLine, PoolLine}
+use Rattle.hp_objects.specs.declared.places.Place.TheVariants.{BeginLine, EventLine, ResizeLine, Workload, Finding, Key, Value}
+use Rattle.hp_objects.specs.declared.places.Place.TheVariants.{RunNumber, Ending, Position, HeldUp, Met, With, Runs, Worked}
+use Rattle.hp_objects.specs.declared.places.Place.TheVariants.{FirstCall, NextCall, Task, Call, Answer, Number, Frames, Files, Slots}
+use Rattle.hp_objects.specs.declared.places.Place.TheVariants.{Tasks, Quota, BeginTask, Operation, Numbers, More, EventTask, NewFrames}
+use Rattle.hp_objects.specs.declared.places.Place.TheVariants.{FindingLine, Wrong, MoreWrong}
 use Rattle.hp_objects.specs.declared.places.Form.{Form}
 use Rattle.hp_objects.specs.declared.places.Form.TheVariants.{Nothing, Inside, Quoted, Valued, Named, Numbered}
 use Rattle.hp_objects.specs.declared.places.Next.{Next}

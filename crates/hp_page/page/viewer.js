@@ -192,7 +192,10 @@ function hover(event) {
   const lane = laneIn(view, y);
   const standing = lane && lane.task > 0 ? standingAt(view.run, lane, at) : null;
   const words = [`line ${lineOf(at)}: ${eventWords(happened)}: ${outcomeWords(happened)}`];
-  if (standing) words.push(`task ${lane.task}: ${callWords(standing.call)} at ${standing.phase} (Linux: ${functionOf(view.run, standing.call.op, standing.phase)})`);
+  if (standing) {
+    const { call, phase } = standing;
+    words.push(`task ${lane.task}: ${callWords(call)} at ${phase} (Linux: ${functionOf(view.run, call.op, phase)})`);
+  }
   view.canvas.title = words.join("\n");
 }
 

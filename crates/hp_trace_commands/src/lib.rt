@@ -1,7 +1,8 @@
 //! Commands that read a trace: `check`, `explain`, `draw` and `format`, with their forms in JSON and HTML.
 //!
 //! It stands on the crates that explain, draw and format, and on hp_program's frame for outputs. It promises of each command what is
-//! answered, and what was read and written then (`Traces.antt`, `Formatting.antt`), and which strict text a loose one asks for (`Strict.antt`). It knows no words of a command line.
+//! answered, and what was read and written then (`Traces.antt`, `Formatting.antt`), and which strict text a loose one asks for
+//! (`Strict.antt`). It knows no words of a command line.
 #![tactic(auto)]
 
 mod checking;
