@@ -275,6 +275,7 @@ impl<W: Write> Write for Objects<W> {
             line_of self.new.held ≡ line_behind output (line_of self.old.held) (take n buf.now))) }
         ensures output { self.new.output ≡ self.old.output }
         ensures fails { IfSome self.old.output (λ output. IfErr result (λ error. self.new.failed ≡ Some error)) }
+        ensures succeeds { OnOk result (self.new.failed ≡ self.old.failed) }
         ensures stays { IfSome self.old.output (λ output. IfSome self.old.failed (λ error.
             (result ≡ Err error) × (self.new ≡ self.old))) }
     {
@@ -300,6 +301,7 @@ impl<W: Write> Write for Objects<W> {
         ensures kept { Keeps (W.contents self.old.out) (W.contents self.new.out) }
         ensures line { self.new.held ≡ self.old.held }
         ensures output { self.new.output ≡ self.old.output }
+        ensures failed { self.new.failed ≡ self.old.failed }
         ensures stays { IfSome self.old.output (λ output. IfSome self.old.failed (λ error.
             (result ≡ Err error) × (self.new ≡ self.old))) }
     {
