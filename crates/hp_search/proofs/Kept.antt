@@ -27,7 +27,7 @@ use Rattle.hp_every.proofs.Answers.{may_at, reached_path, turn_count}
 use Rattle.hp_every.proofs.Runs.{event_count}
 use Rattle.hp_every.proofs.Sames.{last_core}
 use Rattle.hp_search.specs.declared.position.Position.{Position}
-use Rattle.hp_search.specs.Searching.{AreKeysOf, IsAt, IsTooMany, place_of}
+use Rattle.hp_search.specs.Searching.{AreKeysOf, HasEvents, IsAt, IsTooMany, place_of}
 use Rattle.hp_search.proofs.Made.{has_at}
 
 -- ---- whether it meets all conditions
@@ -125,11 +125,11 @@ unfolding IsCutAtLimits
 right_cut_at eq key_of turn limits first n v is h = subst (IsCutAtLimits eq key_of turn first limits) is h
 
 -- as many events as turns
-pub within : (a : Question) (turns : List Turn) (events : List Event) (p : Position) (n most : ℕ)
-    → IsAt a turns events p → length turns ≡ n → n < most → length events < most
-within a turns events p n most at long few =
-    let told = ap (λ (es : List Event). length es) (sym at.told) ∙ event_count at.moments in
-    let made = ap (λ (xs : List Turn). length xs) (sym at.made) ∙ turn_count at.moments in
+pub within : (a : Question) (turns : List Turn) (events : List Event) (n most : ℕ) → HasEvents a turns events → length turns ≡ n → n < most
+    → length events < most
+within a turns events n most h long few =
+    let told = ap (λ (es : List Event). length es) (sym h.told) ∙ event_count h.has.moments in
+    let made = ap (λ (xs : List Turn). length xs) (sym h.has.made) ∙ turn_count h.has.moments in
     omega (arith, told, made, long, few)
 
 -- keys of what is reached are keys of places to which schedules lead

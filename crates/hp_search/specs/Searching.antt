@@ -18,7 +18,7 @@ use Rattle.hp_layers.specs.declared.limits.Limits.{Limits}
 use Rattle.hp_every.specs.declared.turn.Turn.{Turn}
 use Rattle.hp_every.specs.Endings.{Ended, all_among, answers_in}
 use Rattle.hp_every.specs.Schedules.{AnyTurn, IsShortest, NoScheduleMeets, Place, ScheduleMeets, plan_for}
-use Rattle.hp_every.specs.Search.{IsRun, Question, search_key}
+use Rattle.hp_every.specs.Search.{HasTurns, IsRun, Question, search_key}
 use Rattle.hp_every.specs.Turns.{turn_of, turns_of}
 use Rattle.hp_search.specs.declared.reachability.Reachability.{Reachability}
 use Rattle.hp_search.specs.declared.reachability.Reachability.TheVariants.{Never, Met, Cut}
@@ -75,6 +75,11 @@ pub record IsAt (a : Question) (turns : List Turn) (events : List Event) (p : Po
   pub told : events_of moments ≡ events
   pub know : AllKnow a.conditions (known_of p.watches) moments
   pub answers : p.answers.ended.items ≡ answers_in moments
+
+-- a schedule of these turns has these events
+pub record HasEvents (a : Question) (turns : List Turn) (events : List Event) : Type 0 where
+  pub has : HasTurns a turns
+  pub told : events_of has.moments ≡ events
 
 -- the key is that of a place to which a schedule of so many turns leads, and of what was seen on the way
 pub record IsKeyOf (a : Question) (turns : ℕ) (key : List ℕ) : Type 0 where

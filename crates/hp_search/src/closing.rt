@@ -3,17 +3,18 @@ ghost use Rattle.std.specs.Prelude.{◌≡◌, ◌++◌, ◌∷◌, [], List, Al
 ghost use Rattle.std.specs.List.{AllZip, flat_map};
 ghost use Rattle.hp_base.specs.declared.event.Event.{Event};
 ghost use Rattle.hp_watch.specs.Moments.{Moment};
+ghost use Rattle.hp_layers.specs.Named.{AreEach};
 ghost use Rattle.hp_every.specs.Endings.{GoesBy, IsEnding, IsEndState, answers_in, answers_words, ended_call_words, ended_key};
 ghost use Rattle.hp_every.specs.Search.{MayGoOn};
 ghost use Rattle.hp_every.specs.declared.turn.Turn.{Turn};
 ghost use Rattle.hp_key.specs.Packed.{packed};
 ghost use Rattle.hp_search.specs.Searching.{IsAt, IsQuery, ended_here, place_of, question_of};
 
+use crate::following::follow;
 use crate::key::Key;
-use crate::path::{Made, Path, call_number, make_more, make_one, path_at};
+use crate::path::{Path, call_number, make_one, path_at};
 use crate::position::Position;
 use crate::query::Query;
-use hp_base::{Event, Op};
 use hp_every::Turn;
 use hp_key::{pack, push_answer, push_wide};
 use hp_watch::EndedCall;
@@ -113,42 +114,80 @@ pub(crate) fn end_path_at(
     Ok(EndPath { path, key, ending })
 }
 
-/// The schedule with one turn more, which was made.
-fn end_path_of(alloc: Global, query: Query, made: Made) -> Result<EndPath, AllocError>
+/// The schedule with one turn more. It is made from where the schedule stands.
+fn end_path_behind(
+    alloc: Global,
+    query: Query,
+    turns: &[Turn],
+    position: &mut Position,
+    turn: Turn,
+) -> Result<EndPath, AllocError>
     requires planned { IsQuery query }
-    requires at { (events : List Event) × IsAt (question_of query) made.turns.items events made.position }
+    requires may { MayGoOn (question_of query) turns.now turn }
+    requires at { (events : List Event) × IsAt (question_of query) turns.now events position.old }
     ensures state { IfOk result (IsEndState (question_of query.entry)) }
-    ensures turns { IfOk result (λ next. next.path.turns ≡ made.turns.items) }
+    ensures turns { IfOk result (λ next. next.path.turns ≡ turns.now ++ turn ∷ []) }
 {
-    let Made { turns, position } = made;
-    end_path_at(alloc, query, turns, &position)
+    let turns = make_one(alloc, query, turns, position, turn)?;
+    end_path_at(alloc, query, turns, position)
+}
+
+/// The schedule with one turn more, made again from the first place on.
+fn end_path_again(
+    alloc: Global,
+    query: Query,
+    turns: &[Turn],
+    turn: Turn,
+) -> Result<EndPath, AllocError>
+    requires planned { IsQuery query }
+    requires may { MayGoOn (question_of query) turns.now turn }
+    ensures state { IfOk result (IsEndState (question_of query.entry)) }
+    ensures turns { IfOk result (λ next. next.path.turns ≡ turns.now ++ turn ∷ []) }
+{
+    let mut events = Vec::with_capacity(alloc, turns.len())?;
+    let mut position = follow(alloc, query, turns, &mut events)?;
+    end_path_behind(alloc, query, turns, &mut position, turn)
 }
 
 /// The schedules with one of these turns more. The position is where the schedule stands; the last of the turns is made from there, and for
 /// each of the others the schedule is made again.
-pub(crate) fn end_paths_behind(
+fn end_paths_behind(
     alloc: Global,
     query: Query,
     from: &EndPath,
-    position: Position,
+    position: &mut Position,
     turns: &[Turn],
 ) -> Result<Vec<EndPath>, AllocError>
     requires planned { IsQuery query }
-    requires at { (events : List Event) × IsAt (question_of query) from.now.path.turns events position }
+    requires at { (events : List Event) × IsAt (question_of query) from.now.path.turns events position.old }
     requires may { All (MayGoOn (question_of query) from.now.path.turns) turns.now }
     ensures { IfOk result (λ next. AllZip (GoesBy (question_of query.entry) from.now) turns.now next.items) }
 {
-    // The checker of borrows asks for a mention of the types that an event may hold.
-    let _none: (Option<Event>, Option<Op>) = (None, None);
     let mut next = Vec::with_capacity(alloc, turns.len())?;
     let Some(last) = turns.len().checked_sub(1) else {
         return Ok(next);
     };
     for place in 0..last {
-        let made = make_more(alloc, query, &from.path.turns, turns[place])?;
-        next.push(end_path_of(alloc, query, made)?)?;
+        let path = end_path_again(alloc, query, &from.path.turns, turns[place])?;
+        next.push(path)?;
     }
-    let made = make_one(alloc, query, &from.path.turns, position, turns[last])?;
-    next.push(end_path_of(alloc, query, made)?)?;
+    let path = end_path_behind(alloc, query, &from.path.turns, position, turns[last])?;
+    next.push(path)?;
+    Ok(next)
+}
+
+/// The schedules with one turn more, one for each turn that may be made from where the schedule stands.
+pub(crate) fn all_ends_behind(
+    alloc: Global,
+    query: Query,
+    from: &EndPath,
+    position: &mut Position,
+) -> Result<Vec<EndPath>, AllocError>
+    requires planned { IsQuery query }
+    requires at { (events : List Event) × IsAt (question_of query) from.now.path.turns events position.old }
+    ensures { IfOk result (λ next. AreEach (λ s turn t. GoesBy (question_of query.entry) s turn t) from.now next.items) }
+{
+    let turns = position.next_turns(alloc, query.plan)?;
+    let next = end_paths_behind(alloc, query, from, position, &turns)?;
     Ok(next)
 }

@@ -9,7 +9,7 @@ ghost use Rattle.hp_every.specs.Search.{HasTurns};
 ghost use Rattle.hp_search.specs.Endings.{AreAllEndings, AreRowsOf, AreStates, AreWithin, IsRowAt};
 ghost use Rattle.hp_search.specs.Searching.{IsQuery, question, question_of};
 
-use crate::closing::{EndPath, end_path_at, end_paths_behind};
+use crate::closing::{EndPath, all_ends_behind, end_path_at};
 use crate::endings::{EndingRow, EndingRows};
 use crate::finding::Budget;
 use crate::following::follow;
@@ -40,10 +40,8 @@ impl EndQuery<'_> {
         let _none: (Option<Event>, Option<Op>) = (None, None);
         let query = self.query;
         let mut events = Vec::with_capacity(alloc, from.path.turns.len())?;
-        let position = follow(alloc, query, &from.path.turns, &mut events)?;
-        let turns = position.next_turns(alloc, query.plan)?;
-        let next = end_paths_behind(alloc, query, from, position, &turns)?;
-        Ok(next)
+        let mut position = follow(alloc, query, &from.path.turns, &mut events)?;
+        all_ends_behind(alloc, query, from, &mut position)
     }
 }
 
@@ -154,6 +152,17 @@ fn rows_of(
     Ok(rows)
 }
 
+/// The schedule of no turn.
+fn first_end_path(alloc: Global, query: Query) -> Result<EndPath, AllocError>
+    requires planned { IsQuery query }
+    ensures state { IfOk result (IsEndState (question_of query.entry)) }
+    ensures turns { IfOk result (λ s. s.path.turns ≡ []) }
+{
+    let position = Position::first(alloc, query)?;
+    let path = end_path_at(alloc, query, Vec::new(alloc), &position)?;
+    Ok(path)
+}
+
 /// All ways in which the schedules of the script end, of each a shortest schedule, and how many end so. Schedules that lead to the same
 /// place with the same answers are looked at once, however many they are. It takes time and memory for as many places as there are, up to
 /// the limits.
@@ -177,8 +186,7 @@ pub fn explore_every(
         denials: budget.denials,
         kills: budget.kills,
     };
-    let position = Position::first(alloc, query)?;
-    let first = end_path_at(alloc, query, Vec::new(alloc), &position)?;
+    let first = first_end_path(alloc, query)?;
     match endings(rt, alloc, &EndQuery { query }, first, limits, progress)? {
         EndingTable::Whole(counts) => Ok(EndingRows::Whole(rows_of(alloc, query, &counts)?)),
         EndingTable::Cut { turns, .. } => Ok(EndingRows::Cut { turns }),

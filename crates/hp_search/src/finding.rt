@@ -1,18 +1,19 @@
 //! The shortest schedule that meets conditions, or that there is none.
-ghost use Rattle.std.specs.Prelude.{◌≡◌, true, IfOk};
+ghost use Rattle.std.specs.Prelude.{◌≡◌, [], true, IfOk};
 ghost use Rattle.std.proofs.Common.{sym};
 ghost use Rattle.std.specs.Cmp.Lexicographic.{bytes_decides};
 ghost use Rattle.hp_every.proofs.Good.{as_good, by_key};
-ghost use Rattle.hp_every.specs.Search.{AreAsGood, GoesOn, IsPath};
-ghost use Rattle.hp_search.specs.Searching.{IsAnswer, IsQuery, IsWithin, question, question_of};
+ghost use Rattle.hp_every.specs.Search.{AreAsGood, GoesOn, HasTurns, IsPath};
+ghost use Rattle.hp_search.specs.Searching.{HasEvents, IsAnswer, IsQuery, IsWithin, question, question_of};
 
 use crate::following::follow;
 use crate::key::Key;
-use crate::path::{Path, path_at, paths_behind};
+use crate::path::{Path, all_behind, path_at};
 use crate::position::Position;
 use crate::query::Query;
 use crate::reachability::Reachability;
 use hp_base::{Event, Op};
+use hp_every::Turn;
 use hp_explore::{Chances, Plan};
 use hp_hunt::Condition;
 use hp_layers::{Limits, Progress, Turns, Verdict, search};
@@ -40,10 +41,8 @@ impl Turns for Query<'_> {
         let _none: (Option<Event>, Option<Op>) = (None, None);
         let query = *self;
         let mut events = Vec::with_capacity(alloc, path.turns.len())?;
-        let position = follow(alloc, query, &path.turns, &mut events)?;
-        let turns = position.next_turns(alloc, query.plan)?;
-        let next = paths_behind(alloc, query, path, position, &turns)?;
-        Ok(next)
+        let mut position = follow(alloc, query, &path.turns, &mut events)?;
+        all_behind(alloc, query, path, &mut position)
     }
 
     fn key(&self, alloc: Global, path: &Path) -> Result<Key, AllocError> {
@@ -64,6 +63,30 @@ impl Turns for Query<'_> {
 pub struct Budget {
     pub denials: u32,
     pub kills: u32,
+}
+
+/// The schedule of no turn.
+fn first_path(alloc: Global, query: Query) -> Result<Path, AllocError>
+    requires planned { IsQuery query }
+    ensures path { IfOk result (IsPath (question_of query.entry)) }
+    ensures turns { IfOk result (λ path. path.turns ≡ []) }
+{
+    let position = Position::first(alloc, query)?;
+    let path = path_at(alloc, query, Vec::new(alloc), &position)?;
+    Ok(path)
+}
+
+/// The events of a schedule of these turns.
+fn events_of(alloc: Global, query: Query, turns: &[Turn]) -> Result<Vec<Event>, AllocError>
+    requires planned { IsQuery query }
+    requires may { HasTurns (question_of query) turns.now }
+    ensures { IfOk result (λ events. HasEvents (question_of query.entry) turns.now events.items) }
+{
+    // The checker of borrows asks for a mention of the type that an event may hold.
+    let _none: Option<Op> = None;
+    let mut events = Vec::with_capacity(alloc, turns.len())?;
+    follow(alloc, query, turns, &mut events)?;
+    Ok(events)
 }
 
 /// The shortest schedule of the script that meets all conditions, or that none does. Each place that schedules reach in so many turns is
@@ -88,16 +111,14 @@ pub fn find_every(
         denials: budget.denials,
         kills: budget.kills,
     };
-    let position = Position::first(alloc, query)?;
-    let first = path_at(alloc, query, Vec::new(alloc), &position)?;
+    let first = first_path(alloc, query)?;
     let verdict = search(rt, alloc, &query, first, limits, progress)?;
     match verdict {
         Verdict::Never => Ok(Reachability::Never),
         Verdict::Cut { turns } => Ok(Reachability::Cut { turns }),
         Verdict::Met { state, .. } => {
             let _none: Option<Op> = None;
-            let mut events = Vec::with_capacity(alloc, state.turns.len())?;
-            follow(alloc, query, &state.turns, &mut events)?;
+            let events = events_of(alloc, query, &state.turns)?;
             let config = script.config;
             Ok(Reachability::Met(Trace { config, events }))
         }

@@ -5,7 +5,8 @@ ghost use Rattle.hp_core.specs.State.{CoreState};
 ghost use Rattle.hp_hunt.specs.Watching.{AllKnow, known_of};
 ghost use Rattle.hp_key.specs.Numbers.{counted, wide};
 ghost use Rattle.hp_watch.specs.Moments.{Moment, last_of};
-ghost use Rattle.hp_every.specs.Search.{AreBehind, IsPath, MayGoOn, MeetsHere, call_number, calls_words, search_key, search_words, watch_words};
+ghost use Rattle.hp_layers.specs.Layers.{AreAllAfter};
+ghost use Rattle.hp_every.specs.Search.{AreAsGood, AreBehind, GoesOn, IsPath, MayGoOn, MeetsHere, call_number, calls_words, search_key, search_words, watch_words};
 ghost use Rattle.hp_every.specs.Schedules.{IsFinal};
 ghost use Rattle.hp_search.specs.Searching.{IsAt, IsQuery, question_of, place_of};
 ghost use Rattle.hp_hunt.specs.declared.condition.Condition.{Condition};
@@ -172,79 +173,78 @@ pub(crate) fn path_at(
     Ok(Path { turns, key, met })
 }
 
-/// Turns that were made, and where they lead.
-#[derive(Drop)]
-pub(crate) struct Made {
-    pub(crate) turns: Vec<Turn>,
-    pub(crate) position: Position,
+/// The turns, and one more behind them.
+fn with_one_more(alloc: Global, turns: &[Turn], turn: Turn) -> Result<Vec<Turn>, AllocError>
+    ensures { IfOk result (λ longer. longer.items ≡ turns.now ++ turn ∷ []) }
+{
+    let mut longer = Vec::with_capacity(alloc, turns.len().saturating_add(1))?;
+    longer.extend_from_slice(turns)?;
+    longer.push(turn)?;
+    Ok(longer)
 }
 
-/// Makes one turn more, of a schedule of these turns that stands there.
+/// Makes one turn more, of a schedule of these turns that stands there. Tells all its turns.
 pub(crate) fn make_one(
     alloc: Global,
     query: Query,
     turns: &[Turn],
-    position: Position,
+    position: &mut Position,
     turn: Turn,
-) -> Result<Made, AllocError>
+) -> Result<Vec<Turn>, AllocError>
     requires planned { IsQuery query }
     requires may { MayGoOn (question_of query) turns.now turn }
-    requires at { (events : List Event) × IsAt (question_of query) turns.now events position }
-    ensures at { IfOk result (λ made. (events : List Event) × IsAt (question_of query.entry) made.turns.items events made.position) }
-    ensures turns { IfOk result (λ made. made.turns.items ≡ turns.now ++ turn ∷ []) }
+    requires at { (events : List Event) × IsAt (question_of query) turns.now events position.old }
+    ensures at { IfOk result (λ made. (events : List Event) × IsAt (question_of query.entry) made.items events position.new) }
+    ensures turns { IfOk result (λ made. made.items ≡ turns.now ++ turn ∷ []) }
 {
     // The checker of borrows asks for a mention of the type that an event may hold.
     let _none: (Option<Event>, Option<Op>) = (None, None);
-    let mut position = position;
     position.make(query.plan, turn)?;
-    let mut longer = Vec::with_capacity(alloc, turns.len().saturating_add(1))?;
-    longer.extend_from_slice(turns)?;
-    longer.push(turn)?;
-    let turns = longer;
-    Ok(Made { turns, position })
+    let longer = with_one_more(alloc, turns, turn)?;
+    Ok(longer)
 }
 
-/// Makes the turns again, and one more.
-pub(crate) fn make_more(
+/// The schedule with one turn more. It is made from where the schedule stands.
+fn path_behind(
     alloc: Global,
     query: Query,
     turns: &[Turn],
+    position: &mut Position,
     turn: Turn,
-) -> Result<Made, AllocError>
+) -> Result<Path, AllocError>
     requires planned { IsQuery query }
     requires may { MayGoOn (question_of query) turns.now turn }
-    ensures at { IfOk result (λ made. (events : List Event) × IsAt (question_of query.entry) made.turns.items events made.position) }
-    ensures turns { IfOk result (λ made. made.turns.items ≡ turns.now ++ turn ∷ []) }
+    requires at { (events : List Event) × IsAt (question_of query) turns.now events position.old }
+    ensures path { IfOk result (IsPath (question_of query.entry)) }
+    ensures turns { IfOk result (λ next. next.turns ≡ turns.now ++ turn ∷ []) }
 {
-    // The checker of borrows asks for a mention of the type that an event may hold.
-    let _none: (Option<Event>, Option<Op>) = (None, None);
-    let mut events = Vec::with_capacity(alloc, turns.len())?;
-    let position = follow(alloc, query, turns, &mut events)?;
-    make_one(alloc, query, turns, position, turn)
+    let turns = make_one(alloc, query, turns, position, turn)?;
+    path_at(alloc, query, turns, position)
 }
 
-/// The schedule with one turn more, which was made.
-fn path_of(alloc: Global, query: Query, made: Made) -> Result<Path, AllocError>
+/// The schedule with one turn more, made again from the first place on.
+fn path_again(alloc: Global, query: Query, turns: &[Turn], turn: Turn) -> Result<Path, AllocError>
     requires planned { IsQuery query }
-    requires at { (events : List Event) × IsAt (question_of query) made.turns.items events made.position }
+    requires may { MayGoOn (question_of query) turns.now turn }
     ensures path { IfOk result (IsPath (question_of query.entry)) }
-    ensures turns { IfOk result (λ next. next.turns ≡ made.turns.items) }
+    ensures turns { IfOk result (λ next. next.turns ≡ turns.now ++ turn ∷ []) }
 {
-    let Made { turns, position } = made;
-    path_at(alloc, query, turns, &position)
+    let mut events = Vec::with_capacity(alloc, turns.len())?;
+    let mut position = follow(alloc, query, turns, &mut events)?;
+    path_behind(alloc, query, turns, &mut position, turn)
 }
 
 /// The schedules with one of these turns more. The position is where the schedule stands; the last of the turns is made from there, and for
 /// each of the others the schedule is made again.
-pub(crate) fn paths_behind(
+fn paths_behind(
     alloc: Global,
     query: Query,
     path: &Path,
-    position: Position,
+    position: &mut Position,
     turns: &[Turn],
 ) -> Result<Vec<Path>, AllocError>
     requires planned { IsQuery query }
-    requires at { (events : List Event) × IsAt (question_of query) path.now.turns events position }
+    requires at { (events : List Event) × IsAt (question_of query) path.now.turns events position.old }
     requires may { All (MayGoOn (question_of query) path.now.turns) turns.now }
     ensures { IfOk result (λ next. AreBehind (question_of query.entry) path.now turns.now next.items) }
 {
@@ -253,10 +253,26 @@ pub(crate) fn paths_behind(
         return Ok(next);
     };
     for place in 0..last {
-        let made = make_more(alloc, query, &path.turns, turns[place])?;
-        next.push(path_of(alloc, query, made)?)?;
+        let path = path_again(alloc, query, &path.turns, turns[place])?;
+        next.push(path)?;
     }
-    let made = make_one(alloc, query, &path.turns, position, turns[last])?;
-    next.push(path_of(alloc, query, made)?)?;
+    let path = path_behind(alloc, query, &path.turns, position, turns[last])?;
+    next.push(path)?;
+    Ok(next)
+}
+
+/// The schedules with one turn more, one for each turn that may be made from where the schedule stands.
+pub(crate) fn all_behind(
+    alloc: Global,
+    query: Query,
+    path: &Path,
+    position: &mut Position,
+) -> Result<Vec<Path>, AllocError>
+    requires planned { IsQuery query }
+    requires at { (events : List Event) × IsAt (question_of query) path.now.turns events position.old }
+    ensures { IfOk result (λ next. AreAllAfter (GoesOn (question_of query.entry)) (AreAsGood (question_of query.entry)) path.now next.items) }
+{
+    let turns = position.next_turns(alloc, query.plan)?;
+    let next = paths_behind(alloc, query, path, position, &turns)?;
     Ok(next)
 }

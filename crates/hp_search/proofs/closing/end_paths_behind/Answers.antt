@@ -9,8 +9,8 @@ use Rattle.hp_search.specs.Searching.{question_of}
 use Rattle.hp_search.proofs.Closed.{zip_more, zip_whole}
 use Rattle.hp_search.proofs.closing.end_paths_behind.Goals as goal
 
-pub make_more-requires-clause-may : goal.make_more-requires-clause-may
-make_more-requires-clause-may c =
+pub end_path_again-requires-clause-may : goal.end_path_again-requires-clause-may
+end_path_again-requires-clause-may c =
     let here : c.deref.result.now ≡ c.args.from.now.path.turns =
     c.deref.ensures.value ∙ ((λ i. (c.from-inside.view_is i).path.turns) ∙ ap (λ (s : EndState). s.path.turns) c.from.view_is) in
     subst (λ (xs : List Turn). MayGoOn (question_of c.args.query) xs (slice_index_or c.args.turns.now c.loop-place.place (Next 0))) (sym here)
@@ -24,14 +24,14 @@ loop-place-preserved c =
     c.deref.ensures.value ∙ ((λ i. (c.from-inside.view_is i).path.turns) ∙ ap (λ (s : EndState). s.path.turns) c.from.view_is) in
     subst (λ (next : List EndState). AllZip (GoesBy a c.args.from.now) (take (c.loop-place.place + 1) c.args.turns.now) next)
     (sym c.in_ok-push.ensures.items)
-    (zip_more a c.args.from.now c.in_ok-end_path_of.field-0 c.args.turns.now c.loop-place.place (Next 0) c.loop-place.next.items
+    (zip_more a c.args.from.now c.in_ok-path.path c.args.turns.now c.loop-place.place (Next 0) c.loop-place.next.items
     (omega (arith, c.loop-place-test.true, c.in-Some.ensures.0, c.in-Some.ensures.1)) c.loop-place.invariant (record {
-      turns = c.in_ok-end_path_of.ensures.turns ∙ (c.in_ok-made.ensures.turns ∙ ap (λ (xs : List Turn). xs ++ turn ∷ []) here);
-      state = c.in_ok-end_path_of.ensures.state;
+      turns = c.in_ok-path.ensures.turns ∙ ap (λ (xs : List Turn). xs ++ turn ∷ []) here;
+      state = c.in_ok-path.ensures.state;
     }))
 
-pub make_one-requires-clause-may : goal.make_one-requires-clause-may
-make_one-requires-clause-may c =
+pub end_path_behind-requires-clause-may : goal.end_path_behind-requires-clause-may
+end_path_behind-requires-clause-may c =
     let here : c.deref-2.result.now ≡ c.args.from.now.path.turns =
     c.deref-2.ensures.value ∙ ((λ i. (c.from-inside.view_is i).path.turns) ∙ ap (λ (s : EndState). s.path.turns) c.from.view_is) in
     subst (λ (xs : List Turn). MayGoOn (question_of c.args.query) xs (slice_index_or c.args.turns.now c.in-Some.last (Next 0))) (sym here)
@@ -47,11 +47,11 @@ returns c =
     c.deref-2.ensures.value ∙ ((λ i. (c.from-inside.view_is i).path.turns) ∙ ap (λ (s : EndState). s.path.turns) c.from.view_is) in
     let is : c.loop-place.place ≡ last = omega (arith, c.loop-place-test.false, c.loop-place.auto.place-end) in
     let zip = subst (λ (k : ℕ). AllZip (GoesBy a c.args.from.now) (take k turns) c.loop-place.next.items) is c.loop-place.invariant in
-    let more = zip_more a c.args.from.now c.in_ok-end_path_of-2.field-0 turns last (Next 0) c.loop-place.next.items
+    let more = zip_more a c.args.from.now c.in_ok-path-2.path turns last (Next 0) c.loop-place.next.items
     (omega (arith, c.in-Some.ensures.0, c.in-Some.ensures.1)) zip (record {
-      turns = c.in_ok-end_path_of-2.ensures.turns ∙ (c.in_ok-made-2.ensures.turns ∙ ap (λ (xs : List Turn). xs ++ turn ∷ []) here);
-      state = c.in_ok-end_path_of-2.ensures.state;
+      turns = c.in_ok-path-2.ensures.turns ∙ ap (λ (xs : List Turn). xs ++ turn ∷ []) here;
+      state = c.in_ok-path-2.ensures.state;
     }) in
     subst (λ (next : List EndState). AllZip (GoesBy a c.args.from.now) turns next) (sym c.in_ok-push-2.ensures.items)
-    (zip_whole a c.args.from.now turns (last + 1) (c.loop-place.next.items ++ c.in_ok-end_path_of-2.field-0 ∷ [])
+    (zip_whole a c.args.from.now turns (last + 1) (c.loop-place.next.items ++ c.in_ok-path-2.path ∷ [])
     (omega (arith, c.in-Some.ensures.0, c.in-Some.ensures.1)) more)

@@ -1,27 +1,16 @@
-use Rattle.std.proofs.Common.{◌∙◌, [], List, refl, subst, sym}
-use Rattle.hp_every.specs.declared.turn.Turn.{Turn}
+use Rattle.std.proofs.Common.{[], refl}
 use Rattle.hp_every.specs.Endings.{EndState, GoesBy, GoesOnBy}
 use Rattle.hp_search.specs.Endings.{AreAllEndings, AreWithin}
-use Rattle.hp_search.specs.Searching.{IsAt, question}
+use Rattle.hp_search.specs.Searching.{question}
 use Rattle.hp_search.proofs.Bounded.{cut_at, cut_within, rows_few, whole_within}
-use Rattle.hp_search.proofs.Made.{at_first}
 use Rattle.hp_search.proofs.Table.{all_rows, states_right, whole_shortest, whole_told}
 use Rattle.hp_search.proofs.exploring.explore_every.Goals as goal
-
-pub end_path_at-requires-clause-at : goal.end_path_at-requires-clause-at
-end_path_at-requires-clause-at g c =
-    let a = question c.args.script.now c.args.budget [] in (
-      [],
-      subst (λ (turns : List Turn). IsAt a turns [] c.in_ok-position.position) (sym c.new-2.ensures.items)
-          (at_first a c.in_ok-position.position c.in_ok-position.ensures.opening c.in_ok-position.ensures.place c.in_ok-position.ensures.know
-          c.in_ok-position.ensures.answers),
-    )
 
 pub rows_of-requires-clause-states : goal.rows_of-requires-clause-states
 rows_of-requires-clause-states g c =
     let a = question c.args.script.now c.args.budget [] in
     let first = c.in_ok-first.first in
-    let empty = c.in_ok-first.ensures.turns ∙ c.new-2.ensures.items in
+    let empty = c.in_ok-first.ensures.turns in
     let table = c.in_ok-counts.field-0 in
     let ending : EndState → _ = λ s. s.ending in
     let told = whole_told (λ u next t. GoesBy a u next t) ending first table c.in-Whole.counts c.in-Whole.is c.in_ok-counts.ensures.counted in
@@ -33,7 +22,7 @@ unfolding AreAllEndings
 returns-in-Whole-clause-endings g c =
     let a = question c.args.script.now c.args.budget [] in
     let first = c.in_ok-first.first in
-    let empty = c.in_ok-first.ensures.turns ∙ c.new-2.ensures.items in
+    let empty = c.in_ok-first.ensures.turns in
     let table = c.in_ok-counts.field-0 in
     let ending : EndState → _ = λ s. s.ending in
     let told = whole_told (λ u next t. GoesBy a u next t) ending first table c.in-Whole.counts c.in-Whole.is c.in_ok-counts.ensures.counted in
@@ -46,7 +35,7 @@ unfolding AreWithin
 returns-in-Whole-clause-within g c =
     let a = question c.args.script.now c.args.budget [] in
     let first = c.in_ok-first.first in
-    let empty = c.in_ok-first.ensures.turns ∙ c.new-2.ensures.items in
+    let empty = c.in_ok-first.ensures.turns in
     let table = c.in_ok-counts.field-0 in
     let ending : EndState → _ = λ s. s.ending in
     rows_few a first c.in_ok-first.ensures.state empty c.in-Whole.counts c.args.limits.turns
@@ -63,6 +52,6 @@ unfolding AreWithin
 returns-clause-within g c =
     let a = question c.args.script.now c.args.budget [] in
     let first = c.in_ok-first.first in
-    let empty = c.in_ok-first.ensures.turns ∙ c.new-2.ensures.items in
+    let empty = c.in_ok-first.ensures.turns in
     cut_at a c.args.limits first c.in_ok-first.ensures.state empty c.in-Cut.turns
     (cut_within _ _ (GoesOnBy a) first c.args.limits c.in_ok-counts.field-0 _ c.in-Cut.turns c.in-Cut.is c.in_ok-counts.ensures.cut)

@@ -1,4 +1,4 @@
-use Rattle.std.proofs.Common.{◌≡◌, ◌∙◌, ◌∷◌, ◌++◌, [], List, ap, subst, sym}
+use Rattle.std.proofs.Common.{◌∷◌, ◌++◌, [], List, subst, sym}
 use Rattle.hp_explore.specs.Schedule.{Plan}
 use Rattle.hp_every.specs.declared.turn.Turn.{Turn}
 use Rattle.hp_every.specs.Schedules.{MayTurn}
@@ -10,20 +10,17 @@ use Rattle.hp_search.proofs.path.make_one.Goals as goal
 pub make-requires : goal.make-requires
 make-requires c =
     let a = question_of c.args.query in
-    subst (λ (plan : Plan). MayTurn plan (place_of c.args.position) c.args.turn) (sym c.requires.planned)
-    (behind_may a c.args.turns.now c.requires.at.0 c.args.position c.args.turn c.requires.may c.requires.at.1)
+    subst (λ (plan : Plan). MayTurn plan (place_of c.args.position.now) c.args.turn) (sym c.requires.planned)
+    (behind_may a c.args.turns.now c.requires.at.0 c.args.position.now c.args.turn c.requires.may c.requires.at.1)
 
 pub returns-clause-at : goal.returns-clause-at
 returns-clause-at c =
     let a = question_of c.args.query in
     let events = c.requires.at.0 in
     let turn = c.args.turn in
-    let made = subst (λ (plan : Plan). IsMade plan c.args.position turn c.in_ok-make.field-0 c.make.new.self) c.requires.planned
+    let made = subst (λ (plan : Plan). IsMade plan c.args.position.now turn c.in_ok-make.field-0 c.make.new.self) c.requires.planned
     c.in_ok-make.ensures in
-    let more = at_more a c.args.turns.now events c.args.position c.make.new.self turn c.in_ok-make.field-0 c.requires.at.1 made in
-    let whole : c.push.new.self.items ≡ c.args.turns.now ++ turn ∷ [] =
-    c.in_ok-push.ensures.items ∙ ap (λ (xs : List Turn). xs ++ turn ∷ []) (c.in_ok-extend_from_slice.ensures.items
-    ∙ (λ i. c.in_ok-longer.ensures.items i ++ c.args.turns.now)) in (
+    let more = at_more a c.args.turns.now events c.args.position.now c.make.new.self turn c.in_ok-make.field-0 c.requires.at.1 made in (
       events ++ c.in_ok-make.field-0 ∷ [],
-      subst (λ (xs : List Turn). IsAt a xs (events ++ c.in_ok-make.field-0 ∷ []) c.make.new.self) (sym whole) more,
+      subst (λ (xs : List Turn). IsAt a xs (events ++ c.in_ok-make.field-0 ∷ []) c.make.new.self) (sym c.in_ok-longer.ensures) more,
     )
