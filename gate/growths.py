@@ -1,14 +1,12 @@
 #!/usr/bin/env python3
-"""Has one call of the built programs fail, each in turn, one a run, and compares the output with the right one.
+"""Has one growth of memory of the built programs fail, each in turn, one a run, and compares the output with the right one.
 
-A library that is loaded before the program (faults.c) refuses the 1st, 2nd, .. growth of memory, up to a run that meets none; of some
-lines of words it fails each read and each write instead, while all others are made. hugepool must say so and end with status 1, and its
-output must be a front of the right one; where a thread is refused, or nothing fails, the output must be right. hp_memory_tests runs
-stories, which print each refusal and try again: everything else must be as with ample memory, to the end. In two of them threads meet at
-a gate, and where the second thread is refused, the story must say that they don't; of two stores over a driver each says how it ended.
-At last it counts the threads that a command starts: one for each
-racing task and each call of a round on a running pool, anew behind each cut of a journal, and no other. And it has the threads of a race
-meet: the one that is started last doesn't begin before all others wait for it, and then each is held in its call until all are in theirs.
+A library that is loaded before the program (faults.c) refuses the 1st, 2nd, .. growth, up to a run that meets none. hugepool must say so
+and end with status 1, and its output must be a front of the right one; where a thread is refused, or nothing fails, the output must be
+right. hp_memory_tests runs stories, which print each refusal and try again: everything else must be as with ample memory, to the end.
+
+At last it counts the threads that a command starts: one for each racing task and each call of a round on a running pool, anew behind each
+cut of a journal, and no other. And it looks for races in which all tasks have calls in flight at once.
 """
 from __future__ import annotations
 
@@ -18,57 +16,32 @@ import shlex
 import subprocess
 import sys
 import tempfile
+import tomllib
 from bisect import bisect_left
 from concurrent.futures import ThreadPoolExecutor
 from pathlib import Path
-from typing import Callable, Iterable, Iterator, NamedTuple
+from typing import Iterable, Iterator, NamedTuple
 
 from programs import TOP, WORDS, Ran, commands, is_current, is_proved, program_of, report, run, status_of, tested
 
 # the status of a run that does not end
 HANGS = -1
 SECONDS = 300
-# no line of words has so many growths, reads or writes
+# no line of words has so many growths
 MOST = 20_000
 # the number by which the library tells of each thread, and refuses nothing
 TELL_THREADS = -1
-# what hugepool says, by the letter of the fault
-FAILED = {
-    "m": "hugepool: out of memory\n",
-    "r": "hugepool: reading failed\nhugepool: Input/output error (os error 5)\n",
-    "w": "hugepool: writing failed\nhugepool: No space left on device (os error 28)\n",
-}
-
-
-# what hp_memory_tests tells where nothing is refused, by what it reads (NAME.out), and where no second thread can be made (NAME.apart)
-STORIES = TOP / "crates" / "hp_memory_tests" / "stories"
-# of two stores over a driver: how the first ended, the numbers of the pool then, and how the second ended; where both are made, ..
-BOTH_DONE = ("done", "tally 1 0 1 1", "done")
-# .. and where memory is refused to one of them. (Not each refused growth shows: a list that is collected is begun anew with less room.)
-STORES = [
-    ("out of memory", "tally 2 0 0 0", "done"),  # a round without room to answer: nothing happened
-    ("out of memory", "tally 2 0 0 0", "stuck"),  # the change, with nothing taken
-    ("out of memory", "tally 1 0 1 0", "stuck"),  # the page, with a frame in the call's hand and its index reserved
-    ("out of memory", "tally 1 0 1 1", "stuck"),  # the table entry, with the page placed
-    ("done", "tally 1 0 1 1", "out of memory"),  # the second store
-]
-# how that story goes on, whatever was refused
-END = "tally 1 0 1 1\nexit of 1: done\nload of 1: refused notalive\n"
+FAILED = "hugepool: out of memory\n"
+# a writer of objects takes memory of its own, so its write fails
+FAILED_WRITE = f"hugepool: writing failed\n{FAILED}"
+# what hp_memory_tests tells
+STORIES = TOP / "crates" / "hp_memory_tests" / "stories.toml"
 # what is told of something that was refused memory; where that was a call in flight, the journal isn't cut then
 RETRIED = re.compile(r"^(?:.* of (?P<task>\d)|\w+): out of memory\n(?:cut: task (?P=task) has a call in flight\n)?", re.MULTILINE)
-# of stories, what the refusals have to bring about in some of the runs
-BROUGHT = {
-    "c": [
-        *(f"{call}: out of memory\n{call}: " for call in ("map of 1", "map of 2", "store of 1", "load of 2")),
-        *(f"{call} of {task}: out of memory\ncut: task {task} has " for call, task in (("map", 1), ("map", 2), ("store", 1), ("load", 2))),
-        "cut: out of memory\n",
-        "close: out of memory\n",
-    ],
-    "r": ["resize: out of memory\n", "close: out of memory\n"],
-    **{it: ["store of 1: out of memory\n", "store of 2: out of memory\n", "gate: no second thread\n"] for it in "gw"},
-}
 RACED = re.compile(r"run \d+ closed entries \d+ free \d+ resv \d+")
 LATE = re.compile(r"run 0 late entries \d+ free \d+ resv \d+\n")
+# by chance some tasks may have ended their calls before others begin, so it is tried so often
+RACES = 40
 
 
 class Told(NamedTuple):
@@ -81,25 +54,22 @@ class Told(NamedTuple):
 
 
 class Program:
-    """A program, and the library that is loaded before it, if any."""
+    """A program, and the library that is loaded before it."""
 
-    def __init__(self, path: Path, library: Path | None) -> None:
+    def __init__(self, path: Path, library: Path) -> None:
         self.path, self.library = path, library
 
-    def told(self, words: str, given: str, **faults: int) -> Told:
-        """A run with these words and this input, in which the call of this number fails, as GROWTH=3."""
-        read, write = os.pipe()
-        own = {"PATH": os.environ["PATH"], "FAULT_TOLD": str(write), **{f"FAULT_{kind}": str(number) for kind, number in faults.items()}}
-        own |= {"LD_PRELOAD": str(self.library)} if self.library else {}
-        try:
-            ran = run(self.path, words, given, env=own, pass_fds=[write], timeout=SECONDS)
-        except subprocess.TimeoutExpired:
-            ran = Ran(HANGS, "", f"it hasn't ended after {SECONDS} seconds")
-        os.close(write)
-        # (what a wrong program has begun may still hold the other end)
-        os.set_blocking(read, False)
-        with open(read, "rb", buffering=0) as said:
-            return Told(*ran, (said.read() or b"").decode())
+    def told(self, words: str, given: str, refused: int = 0) -> Told:
+        """A run with these words and this input, in which the growth of this number is refused, if any is."""
+        with tempfile.TemporaryFile() as told:
+            own = {"PATH": os.environ["PATH"], "LD_PRELOAD": str(self.library)}
+            own |= {"FAULT_TOLD": str(told.fileno()), "FAULT_GROWTH": str(refused)}
+            try:
+                ran = run(self.path, words, given, env=own, pass_fds=[told.fileno()], timeout=SECONDS)
+            except subprocess.TimeoutExpired:
+                ran = Ran(HANGS, "", f"it hasn't ended after {SECONDS} seconds")
+            told.seek(0)
+            return Told(*ran, told.read().decode())
 
 
 def library(folder: Path) -> Path:
@@ -115,25 +85,14 @@ class Case(NamedTuple):
     words: str
     read: str
     alike: str = "all"
-    # the calls that fail, each in turn
-    fails: tuple[str, ...] = ("GROWTH",)
-    # of a story, what it tells, what where it has no second thread, and what refusals bring about in it
-    right: str = ""
-    apart: str | None = None
-    brought: tuple[str, ...] = ()
-    # whether it is promised to start threads, so that some refused growth is a thread's
-    starts: bool = False
-    # where this is a number, some run that lacks memory has written lines, and fewer than so many
-    lines: int = 0
-    # whether its calls wait for those of other threads: where one can't be made it ends as if memory were wanted
-    waits: bool = False
     # the status behind a fault
     status: int = 1
-
-    def errors(self, kind: str) -> set[str]:
-        """What may be said on standard error of a call that failed. A writer of objects takes memory of its own, so its write fails."""
-        has_objects = "--json" in self.words and self.words.split()[0] not in ("explain", "replay")
-        return {FAILED[kind]} | ({f"hugepool: writing failed\n{FAILED[kind]}"} if has_objects and kind == "m" else set())
+    # whether it is promised to start threads, so that some refused growth is a thread's
+    starts: bool = False
+    # whether its calls wait for those of other threads: where one can't be made it ends as if memory were wanted
+    waits: bool = False
+    # where this is a number, some run that lacks memory has written lines, and fewer than so many
+    lines: int = 0
 
     def agrees(self, out: str, right: str, is_whole: bool) -> bool:
         """Whether an output is right, or the front of one that is. Of races each line is that of a closed one, in order; the traces of two
@@ -147,6 +106,71 @@ class Case(NamedTuple):
             missing = right.count("\n") - len(lines)
             return closed and out.count("\n") == len(lines) and (missing == 0 or missing > 0 and not is_whole)
         return out == right if is_whole else right.startswith(out)
+
+    def is_whole(self, right: Told, told: Told) -> bool:
+        """Whether a run is right to its end. One may be that was refused memory: a list that is collected is begun anew with less room."""
+        return (told.status, told.err) == (right.status, right.err) and self.agrees(told.out, right.out, True)
+
+    def is_late(self, told: Told) -> bool:
+        """Whether a race says that a call waited for one of a task whose thread wasn't made."""
+        return self.waits and (told.status, told.err) == (1, "") and bool(LATE.fullmatch(told.out))
+
+    def fault(self, right: Told, told: Told) -> str | None:
+        """What is wrong with a run beside the right one, if anything is."""
+        is_alone = self.waits and told.faults == "t"
+        if len(told.faults) < 2 and (self.is_late(told) if is_alone else self.is_whole(right, told)):
+            return None
+        if told.faults != "m":
+            return f"status {told.status}, {told.err!r} and {told.out[-100:]!r}, where {told.faults!r} was refused"
+        if self.is_late(told):
+            return None
+        has_objects = "--json" in self.words and self.words.split()[0] not in ("explain", "replay")
+        # (without memory for the words no command is known)
+        if told.status not in (1, self.status) or told.err not in (FAILED, *([FAILED_WRITE] if has_objects else [])):
+            return f"status {told.status}, and on standard error {told.err!r}"
+        return None if self.agrees(told.out, right.out, False) else f"its output is no front of the right one: {told.out[-100:]!r}"
+
+    def missing(self, right: Told, several: list[Told]) -> Iterator[str]:
+        """What has to come of some of its runs, and came of none."""
+        failed = [it for it in several if it.faults]
+        if self.starts and not any(it.faults == "t" for it in failed):
+            yield "it starts no thread"
+        if self.lines and not any(it.err == FAILED and 0 < it.out.count("\n") < self.lines for it in failed):
+            yield "where it lacks memory it never shows what came before"
+        whole = sum(it.faults == "m" and self.is_whole(right, it) for it in failed)
+        if whole * 3 > len(failed):
+            yield f"of {len(failed)} failures {whole} are not told"
+
+
+class Story(NamedTuple):
+    """A story: what is read; and of what is told, from some words on and but for what was tried again: where nothing fails (`out`), where
+    no second thread can be made (`apart`), where memory is refused to what isn't tried again (`also`), and what is told in some run."""
+
+    read: str
+    out: str
+    apart: str | None = None
+    also: tuple[str, ...] = ()
+    brought: tuple[str, ...] = ()
+    begins: str = ""
+
+    @property
+    def words(self) -> str:
+        return ""
+
+    def fault(self, _: Told, told: Told) -> str | None:
+        """What is wrong with a story that was told, if anything is."""
+        if len(told.faults) > 1 or (told.status, told.err) != (0, ""):
+            return f"status {told.status}, on standard error {told.err!r}, faults {told.faults!r}"
+        retried = told.out.count("out of memory")
+        if retried > (told.faults == "m"):
+            return f"it tells of what wasn't refused: {told.out[-100:]!r}"
+        # (before a thread is started memory is taken for it too)
+        allowed = {"t": [self.apart], "m": [self.out, *(self.also if retried else [self.apart])]}.get(told.faults, [self.out])
+        kept = RETRIED.sub("", told.out[told.out.find(self.begins) :])
+        return None if kept in allowed else f"its output isn't right: {told.out[-100:]!r}"
+
+    def missing(self, _: Told, several: list[Told]) -> Iterator[str]:
+        yield from (f"in no run is told {it!r}" for it in self.brought if not any(it in told.out for told in several))
 
 
 def example(name: str) -> str:
@@ -167,8 +191,6 @@ def workloads() -> list[str]:
 
 # what a person writes: comments, repeated steps, and steps up to a phase
 LOOSE = "# by hand\n\npool 4 1 4 1\n begin 1 map 0 0 1\nstep 1 *3\nstep 1 until ended\nbegin 1 store 0 7\nstep 1 until taken\n"
-
-
 # a trace that is a script
 SMALL = "pool 4 1 4 1\nbegin 1 map 0 0 1\n"
 # a state with which much is wrong
@@ -191,8 +213,8 @@ def cases() -> Iterator[Case]:
         alike = "header" if words == "race --trace" else "races" if command == "race" else "all"
         is_search = command in ("find", "minimize") or "--every" in words
         starts = command == "race" or explores and command == "explore" and not is_search
-        yield Case(words, SMALL if is_search else reads[kind], alike, starts=starts, status=status_of(words))
-    yield Case("find --seed 7 --answer 1:2=beyond", script, starts=explores, status=2)
+        yield Case(words, SMALL if is_search else reads[kind], alike, status_of(words), starts)
+    yield Case("find --seed 7 --answer 1:2=beyond", script, status=2, starts=explores)
     yield Case("minimize --answer 1:2=beyond", example("truncate-overtakes-a-store.trace"), status=2)
     for words in ("replay --help", "nothing", "replay --all", "explain --lines 4..3", "explain --tasks 65", "format", "step"):
         yield Case(words, LOOSE)
@@ -207,133 +229,39 @@ def cases() -> Iterator[Case]:
     yield from (Case(f"race --times 1 {words}", script, "races", starts=True) for words in ("--cut 2", "--deny 100 --kill 200"))
     yield Case("race --times 1", example("truncate-after-store.script"), "races", starts=True, waits=True)
     yield Case("race --times 1", crowd(12), "races", starts=True)
-    yield from stream_cases()
 
 
-def stream_cases() -> Iterator[Case]:
-    """What is run with one read or write that fails."""
-    calls = "begin 1 map 0 0 1\nbegin 1 unmap 0\n"
-    trace, script, short = "pool 4 1 4 2\n" + "step 1\n" * 2_000, "pool 4 1 4 2\n" + calls * 400, "pool 4 1 4 2\n" + calls * 10
-    both = ("READ", "WRITE")
-    for words in (*WORDS["trace"], "replay --color always", "explain --compact --linux --tasks 1 --lines 2..1500"):
-        # (`step` answers each line before the next is read, so a read that fails behind the last leaves the output whole)
-        fails = ("WRITE",) if words == "step" else both
-        yield Case(words, short if words == "step" else trace, fails=fails, status=status_of(words))
-    yield from (Case(words, script, fails=both) for words in ("schedule", "explore --runs 600", "explore --summary --runs 60"))
-    yield Case("audit", PICTURE, fails=both, status=2)
-    # (a race writes each line by itself)
-    yield from (Case(f"race {words}", short, alike, both) for words, alike in (("--times 3", "races"), ("--trace", "header")))
-    yield from (Case(words, "", fails=("WRITE",)) for words in ("work readback", "--help"))
-    # (which run was found is said before the last write)
-    yield Case("find --final resv=1", script, fails=("READ",), status=2)
-
-
-def stories() -> Iterator[Case]:
-    """What hp_memory_tests reads."""
-    for file in sorted([*STORIES.glob("*.out"), *(TOP / "examples").rglob("*.out")]):
-        trace, apart = file.with_suffix(".trace"), file.with_suffix(".apart")
+def stories() -> Iterator[Story]:
+    """What hp_memory_tests reads, and tells: stories of its own, and traces of examples/."""
+    for it in tomllib.loads(STORIES.read_text(encoding="utf-8"))["story"]:
+        yield Story(**it)
+    for file in sorted((TOP / "examples").rglob("*.out")):
         if not file.with_suffix(".err").exists():
-            told = {it.suffix: it.read_text(encoding="utf-8") for it in (file, trace, apart) if it.exists()}
-            brought = tuple(BROUGHT.get(file.stem, ()))
-            yield Case("", told.get(".trace", file.stem), right=told[".out"], apart=told.get(".apart"), brought=brought)
+            yield Story(*(file.with_suffix(it).read_text(encoding="utf-8") for it in (".trace", ".out")))
 
 
-def is_whole(case: Case, right: Told, told: Told) -> bool:
-    """Whether a run is right to its end. One may be that was refused memory: a list that is collected is begun anew with less room."""
-    return (told.status, told.err) == (right.status, right.err) and case.agrees(told.out, right.out, True)
-
-
-def is_late(case: Case, told: Told) -> bool:
-    """Whether a race says that a call waited for one of a task whose thread wasn't made."""
-    return case.waits and (told.status, told.err) == (1, "") and bool(LATE.fullmatch(told.out))
-
-
-def fault(case: Case, right: Told, told: Told) -> str | None:
-    """What is wrong with a run beside the right one, if anything is."""
-    if len(told.faults) > 1:
-        return f"more than one call failed: {told.faults}"
-    if told.faults in ("m", "t") and is_late(case, told):
-        return None
-    if told.faults in FAILED and not (told.faults == "m" and is_whole(case, right, told)):
-        # (without memory for the words no command is known)
-        if told.status not in ({1, case.status} if told.faults == "m" else {case.status}) or told.err not in case.errors(told.faults):
-            return f"status {told.status}, and on standard error {told.err!r}"
-        is_short = case.agrees(told.out, right.out, False) and (told.faults == "m" or told.out != right.out)
-        return None if is_short else f"its output is no front of the right one: {told.out[-100:]!r}"
-    if told.faults == "t" and case.waits:
-        return f"it ended with {told.status} and {told.err!r} without a thread"
-    if (told.status, told.err) != (right.status, right.err):
-        return f"status {told.status}, and on standard error {told.err!r}, though nothing failed"
-    return None if case.agrees(told.out, right.out, True) else f"its output isn't right: {told.out[-100:]!r}"
-
-
-def story_fault(case: Case, right: Told, told: Told) -> str | None:
-    """What is wrong with a story that was told, or None."""
-    if len(told.faults) > 1:
-        return f"more than one growth was refused: {told.faults}"
-    if (told.status, told.err) != (0, ""):
-        return f"status {told.status}, and on standard error {told.err!r}"
-    kept, retried = RETRIED.subn("", told.out)
-    if retried > (told.faults == "m"):
-        return f"it tells of what wasn't refused: {told.out[-100:]!r}"
-    # (before a thread is started memory is taken for it too)
-    allowed = {"t": [case.apart], "m": [right.out] if retried else [right.out, case.apart]}.get(told.faults, [right.out])
-    return None if kept in allowed else f"its output isn't right: {told.out[-100:]!r}"
-
-
-def stores_told(first: str, numbers: str, second: str) -> str:
-    return f"store of 1: {first}\n{numbers}\nstore of 2: {second}\n"
-
-
-def driver_fault(_: Case, right: Told, told: Told) -> str | None:
-    """What is wrong with two stores over a driver, which aren't made again, or None."""
-    if len(told.faults) > 1 or (told.status, told.err) != (0, ""):
-        return f"status {told.status}, on standard error {told.err!r}, faults {told.faults!r}"
-    if told.out.count("out of memory") > len(told.faults):
-        return f"it tells of what wasn't refused: {told.out!r}"
-    kept = re.sub(r"^(?!store ).*: out of memory\n", "", told.out[told.out.find("store of 1: ") :], flags=re.MULTILINE)
-    allowed = [BOTH_DONE, *(STORES if told.faults else [])]
-    return None if kept in [stores_told(*it) + END for it in allowed] else f"its stores and its end are {kept!r}"
-
-
-Judge = Callable[[Case, Told, Told], "str | None"]
-
-
-def runs(program: Program, case: Case, kind: str, pool: ThreadPoolExecutor) -> Iterator[tuple[int, Told]]:
-    """The runs in which the 1st call of this kind fails, the 2nd, and so on, up to one in which none does."""
+def runs(program: Program, case: Case | Story, pool: ThreadPoolExecutor) -> Iterator[Told]:
+    """The runs in which the 1st growth is refused, the 2nd, and so on, up to one that meets no refusal."""
     step = os.cpu_count() or 1
     for first in range(1, MOST, step):
-        numbers = range(first, first + step)
-        for number, told in zip(numbers, pool.map(lambda n: program.told(case.words, case.read, **{kind: n}), numbers)):
-            yield number, told
+        for told in pool.map(lambda number: program.told(case.words, case.read, number), range(first, first + step)):
+            yield told
             if not told.faults:
                 return
 
 
-def faults(program: Program, case: Case, pool: ThreadPoolExecutor, judge: Judge = fault) -> tuple[int, list[str]]:
-    """How many calls failed, and what was wrong with the runs."""
-    name = f"{program.path.name} {case.words}".strip() or case.read[:20]
+def faults(program: Program, case: Case | Story, pool: ThreadPoolExecutor) -> tuple[int, list[str]]:
+    """How many growths were refused, and what was wrong with the runs."""
+    name = f"{program.path.name} {case.words}".strip() + f" {case.read[:20]!r}"
     right = program.told(case.words, case.read)
-    if right.faults or judge(case, right, right) or case.right and right.out != case.right:
+    if right.faults or case.fault(right, right):
         return 0, [f"{name}: where nothing fails it tells {right.out[-100:]!r}, and on standard error {right.err!r}"]
-    found, missing = [], {*case.brought}
-    failed = whole = shown = threads = 0
-    for kind in case.fails:
-        number, told = 0, right
-        for number, told in runs(program, case, kind, pool):
-            if wrong := judge(case, right, told):
-                found.append(f"{name}: {kind} {number}: {wrong}")
-            missing = {it for it in missing if it not in told.out}
-            failed, threads = failed + bool(told.faults), threads + (told.faults == "t")
-            shown += (told.status, told.err) == (case.status, FAILED["m"]) and 0 < told.out.count("\n") < case.lines
-            whole += told.faults == "m" and is_whole(case, right, told)
-        if number == 1 or told.faults:
-            found.append(f"{name}: of its calls {kind} {number - 1} failed")
-    found += [f"{name}: in no run is told {it!r}" for it in sorted(missing)]
-    found += [f"{name}: it starts no thread"] if case.starts and not threads else []
-    found += [f"{name}: where it lacks memory it never shows what came before"] if case.lines and not shown else []
-    found += [f"{name}: of {failed} failures {whole} are not told"] if judge is fault and whole * 3 > failed else []
-    return failed, found
+    several = [*runs(program, case, pool)]
+    found = [f"{name}: growth {number}: {wrong}" for number, told in enumerate(several, 1) if (wrong := case.fault(right, told))]
+    found += [f"{name}: {it}" for it in case.missing(right, several)]
+    if len(several) == 1 or several[-1].faults:
+        found.append(f"{name}: of its {len(several)} runs the last was refused {several[-1].faults!r}")
+    return len(several) - 1, found
 
 
 def even(tasks: int, calls: int) -> str:
@@ -343,7 +271,7 @@ def even(tasks: int, calls: int) -> str:
 
 def threads(program: Program, words: str, read: str) -> int:
     """How many threads a run starts, which has to end well."""
-    told = program.told(words, read, GROWTH=TELL_THREADS)
+    told = program.told(words, read, TELL_THREADS)
     if told.status or told.err or told.faults.strip("s"):
         raise SystemExit(f"growths: {words}: status {told.status}, told is {told.err!r}, and of threads {told.faults!r}")
     return len(told.faults)
@@ -372,32 +300,21 @@ def threads_tried(program: Program) -> Iterator[tuple[str, bool]]:
     yield "a trace starts none", not any(threads(program, words, trace) for words in ("replay", "explain", "draw", "check"))
 
 
-def meetings(tasks: int, files: int) -> tuple[str, str, int]:
-    """The words of a race in which all tasks can meet in calls that wait for nobody, its script, and how many threads it starts before.
-    Where each maps a page of a file of its own they meet in that; else each stores to a page and by a slot of its own in a second part."""
-    maps = [f"begin {task} mapn {task - 1 if files > 1 else 0} {task} 1\n" for task in range(1, tasks + 1)]
-    stores = [f"begin {task} store 0 7\n" for task in range(1, tasks + 1)]
-    if files > 1:
-        return "race --times 1", f"pool 1 {files} 1 {tasks}\n" + "".join(maps), 0
-    return "race --times 1 --cut 1", f"pool {tasks} 1 64 {tasks}\n" + "".join(maps + stores), tasks - 1
-
-
-def is_met(program: Program, tasks: int, files: int) -> bool:
-    """Whether the threads of a race meet, as many as it has tasks. On a busy machine they may take long to come."""
-    words, script, before = meetings(tasks, files)
-    told = program.told(words, script, GROWTH=TELL_THREADS, MEET=tasks, AFTER=before)
-    return told.status == 0 and bool(RACED.fullmatch(told.out.strip())) and told.faults == "s" * (before + tasks - 1) + "m"
-
-
-def meetings_tried(program: Program) -> Iterator[tuple[str, bool]]:
-    """Whether the threads of a race begin together, and are in their calls together."""
-    for tasks, files in ((2, 16), (3, 16), (16, 16), (2, 1), (17, 1), (33, 1), (64, 1)):
-        yield f"{tasks} tasks, on {files} files, wait for the last, and are in their calls at once", is_met(program, tasks, files)
+def most_at_once(program: Path, script: str) -> int:
+    """How many calls a race of this script has in flight at once, at the most."""
+    trace = run(program, "race --trace", script).out
+    busy: set[str] = set()
+    most = 0
+    for event, outcome in zip(trace.splitlines()[1:], run(program, "replay", trace).out.splitlines()):
+        task = event.split()[1]
+        busy = busy | {task} if outcome == "begun" else busy - {task} if outcome.startswith("ended") else busy
+        most = max(most, len(busy))
+    return most
 
 
 def growths(program: Program, words: str, read: str) -> int:
     """How many growths a run has: the least number that isn't refused, less one."""
-    return bisect_left(range(MOST), True, lo=1, key=lambda number: not program.told(words, read, GROWTH=number).faults) - 1
+    return bisect_left(range(MOST), True, lo=1, key=lambda number: not program.told(words, read, number).faults) - 1
 
 
 def audits_tried(program: Program) -> Iterator[tuple[str, bool]]:
@@ -408,14 +325,14 @@ def audits_tried(program: Program) -> Iterator[tuple[str, bool]]:
     yield f"each of four runs is audited ({one} growths for one, {four} for four)", four > 3 * one > 30
 
 
-def refusals(program: Program, several: Iterable[Case], judge: Judge, pool: ThreadPoolExecutor) -> Iterator[tuple[str, bool]]:
-    """Whether each case ends as it should where one of its calls fails."""
+def refusals(program: Program, several: Iterable[Case | Story], pool: ThreadPoolExecutor) -> Iterator[tuple[str, bool]]:
+    """Whether each case ends as it should where one of its growths is refused."""
     counts = []
     for case in several:
-        count, found = faults(program, case, pool, judge)
+        count, found = faults(program, case, pool)
         counts.append(count)
         yield "; ".join(found[:3]), not found
-    print(f"growths: {sum(counts)} calls of {program.path.name} failed, one a run")
+    print(f"growths: {sum(counts)} growths of {program.path.name} were refused, one a run")
 
 
 def tries(loaded: Path, pool: ThreadPoolExecutor) -> Iterator[tuple[str, bool]]:
@@ -423,17 +340,18 @@ def tries(loaded: Path, pool: ThreadPoolExecutor) -> Iterator[tuple[str, bool]]:
     program, teller = Program(tested(), loaded), Program(program_of("hp_memory_tests"), loaded)
     yield "each command is run", {words.split()[0] for several in WORDS.values() for words in several} >= {*commands()} - {"help"}
     if is_proved():
-        yield from refusals(program, cases(), fault, pool)
+        yield from refusals(program, cases(), pool)
         yield from audits_tried(program)
     else:
-        print("left out: failed allocations, reads and writes of commands: they need the proved program")
+        print("left out: failed allocations of commands: they need the proved program")
     if is_current(teller.path, "hp_memory_tests"):
-        yield from refusals(teller, stories(), story_fault, pool)
-        yield from refusals(teller, [Case("", "", brought=tuple(stores_told(*it) for it in STORES))], driver_fault, pool)
+        yield from refusals(teller, stories(), pool)
     else:
         print("left out: failed allocations in scenarios (hp_memory_tests): they need its proved program (./check all)")
     yield from threads_tried(program)
-    yield from meetings_tried(program)
+    for tasks in (2, 12, 64):
+        is_so = any(most_at_once(program.path, crowd(tasks)) == tasks for _ in range(RACES))
+        yield f"all {tasks} tasks of a race have calls in flight at once", is_so
 
 
 def main() -> int:
