@@ -4,7 +4,6 @@
 Each trace of examples/ and of the folders in it is replayed: NAME.out has the output, NAME.err and NAME.status the complaint and the
 status, where they aren't nothing and 0. NAME.explained is what is written where the trace is explained, and docs/pictures/NAME.svg what
 is drawn of it.
-The lines of JSON of each trace are as Python's writer writes them, and a page holds these lines.
 All these are rows, as are the tables `[[row]]` of examples/commands/NAME.toml; examples/README.md lists their keys. A row may hand the
 program streams that fail: an input that breaks off, an output with room for some bytes, a full standard error. They are the system's own (a
 socket whose other end is reset, a limit on the size of files, /dev/full), so the whole program runs as it ships.
@@ -14,7 +13,6 @@ closed.
 """
 from __future__ import annotations
 
-import json
 import os
 import re
 import resource
@@ -25,13 +23,11 @@ import subprocess
 import sys
 import tempfile
 import tomllib
-from collections import Counter
 from concurrent.futures import ThreadPoolExecutor
 from dataclasses import dataclass, field, replace
 from pathlib import Path
-from typing import IO, Callable, Iterator, NamedTuple
+from typing import IO, Callable, Iterator
 
-import page
 from programs import TOP, Ran, first_difference, is_proved, report, run, tested
 
 FOLDER = TOP / "examples"
@@ -92,15 +88,17 @@ class Row:
         return (self.stdin + REPEATED.sub(lambda it: "\n".join([it[1]] * int(it[2])), text)).encode()
 
 
-def rows_of(file: Path) -> list[Row]:
-    """The rows of a file. A key that is none of a row's is an error."""
-    tables = tomllib.loads(file.read_text(encoding="utf-8"))
-    texts = tables.get("texts", {})
+def rows_below(folder: Path) -> list[tuple[str, Row]]:
+    """All rows of a folder, each with the name of its file and its own. A key that is none of a row's is an error."""
+    tables = {file.name: tomllib.loads(file.read_text(encoding="utf-8")) for file in sorted(folder.glob("*.toml"))}
+    # (a text that its own file doesn't have is that of another)
+    shared = {name: text for it in tables.values() for name, text in it.get("texts", {}).items()}
     found = []
-    for table in tables["row"]:
-        if isinstance(table.get("stdout"), list):
-            table["stdout"] = "".join(texts[name] for name in table["stdout"])
-        found.append(Row(**table))
+    for file, it in tables.items():
+        texts = shared | it.get("texts", {})
+        for row in it["row"]:
+            named = {key: "".join(texts[name] for name in row[key]) for key in ("stdout", "stdout_ends") if isinstance(row.get(key), list)}
+            found.append((f"{file}: {row['name']}", Row(**row | named)))
     return found
 
 
@@ -207,24 +205,11 @@ def row_fault(program: Path, words: str, row: Row) -> str | None:
         return "it does not end"
 
 
-def rows_below(folder: Path) -> list[tuple[str, Row]]:
-    """All rows of a folder, each with the name of its file and its own."""
-    return [(f"{file.name}: {row.name}", row) for file in sorted(folder.glob("*.toml")) for row in rows_of(file)]
-
-
 def row_tries(program: Path, name: str, row: Row) -> Iterator[tuple[str, bool]]:
     """Each command line of a row, and whether it does what the row says."""
     for words in row.words:
         wrong = row_fault(program, words, row)
         yield f"{name}: {program.name} {words}: {wrong}", not wrong
-
-
-class Need(NamedTuple):
-    """A call of a task, by its number, and how many calls each of some others ends before."""
-
-    task: str
-    number: int
-    ended: dict[str, int]
 
 
 def names(ending: str) -> set[str]:
@@ -285,41 +270,6 @@ def script_tries(program: Path, name: str) -> Iterator[tuple[str, bool]]:
             continue
         fault = race_fault(ran)
         yield f"{name}: race{options}: {fault}", not fault
-    if script.startswith("script "):
-        needs, traces = needs_of(script), [output(program, "race --trace", script) for _ in range(RACES)]
-        yield f"{name}: races keep its waits", any(it.ended for it in needs) and all(keeps(needs, it) for it in traces)
-
-
-def needs_of(script: str) -> list[Need]:
-    """What the calls of a script need, in the order of its lines."""
-    made, needs, ended = Counter(), [], {}
-    for word, task in (line.split(" ")[:2] for line in script.splitlines()[1:]):
-        if word == "after":
-            ended[task] = made[task]
-            continue
-        needs.append(Need(task, made[task], ended))
-        made[task] += 1
-        ended = {}
-    return needs
-
-
-def keeps(needs: list[Need], trace: str) -> bool:
-    """Whether each call of a trace begins once the calls that it needs have ended."""
-    events = [tuple(line.split(" ")[:2]) for line in trace.splitlines()[1:]]
-    wanted, begun = {(it.task, it.number): it.ended for it in needs}, Counter()
-    for place, (word, task) in enumerate(events):
-        if word != "begin":
-            continue
-        for other, calls in wanted[task, begun[task]].items():
-            if begun[other] < calls or begun[other] == calls and steps_on(events[place:], other):
-                return False
-        begun[task] += 1
-    return bool(events)
-
-
-def steps_on(events: list[tuple[str, str]], task: str) -> bool:
-    """Whether the first of the task's events is a step: its call hasn't ended."""
-    return next((word for word, other in events if other == task), "begin") in ("step", "deny")
 
 
 def race_fault(ran: Ran) -> str | None:
@@ -329,18 +279,6 @@ def race_fault(ran: Ran) -> str | None:
     if ran.status or wrong or len(lines) != RACES:
         return f"status {ran.status}, {len(lines)} lines, {ran.err!r}, of which are wrong {wrong[:1]}"
     return None
-
-
-def json_tries(program: Path, name: str) -> Iterator[tuple[str, bool]]:
-    """Whether the lines of JSON of a trace are as Python writes them, and those of a page. (What they say is proved.)"""
-    trace, status = text(name, ".trace"), int(text(name, ".status", "0"))
-    if status:
-        return
-    lines = run(program, "explain --json", trace).out
-    again = "".join(json.dumps(json.loads(line), separators=(",", ":")) + "\n" for line in lines.splitlines())
-    yield f"{name}: the lines of explain --json are JSON", again == lines != ""
-    yield f"{name}: replay --json writes the same lines", run(program, "replay --json", trace).out == lines
-    yield f"{name}: draw --html writes them between head and tail", run(program, "draw --html", trace).out == lines.join(page.page())
 
 
 def tries(program: Path, pool: ThreadPoolExecutor) -> Iterator[tuple[str, bool]]:
@@ -353,7 +291,6 @@ def tries(program: Path, pool: ThreadPoolExecutor) -> Iterator[tuple[str, bool]]
     several = [it for it in several if it not in large]
     begun = [pool.submit(lambda name=name: [*script_tries(program, name)]) for name in sorted(names(".script"))]
     begun += [pool.submit(lambda it=it: [*row_tries(program, *it)]) for it in several]
-    begun += [pool.submit(lambda name=name: [*json_tries(program, name)]) for name in sorted(names(".trace"))]
     for it in begun:
         yield from it.result()
 
