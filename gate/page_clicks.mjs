@@ -1,7 +1,7 @@
 #!/usr/bin/env node
 // Clicks through pages of `draw --html` in the browsers that are there: pages are made here of runs that are written out here.
 //
-//   gate/page_clicks.mjs HEAD TAIL [FOLDER]    files with what stands before a page's data and behind them; with FOLDER: pictures are put there
+//   gate/page_clicks.mjs HEAD TAIL    files with what stands before a page's data and behind them
 //
 // The last line is 'N passed, M failed'.
 import fs from "node:fs";
@@ -10,7 +10,7 @@ import path from "node:path";
 import { pathToFileURL } from "node:url";
 import { inBrowsers } from "../library/page/browsers.mjs";
 
-const [head, tail, pictures] = process.argv.slice(2);
+const [head, tail] = process.argv.slice(2);
 const room = fs.mkdtempSync(path.join(os.tmpdir(), "page-clicks-"));
 // milliseconds in which the page has to come to what is expected, however busy the machine is
 const PATIENCE = 60_000;
@@ -102,17 +102,6 @@ async function tryCrowd() {
   await expect("one name for one curve", `!/\\bbare\\b|without a page/.test(document.body.innerText) && document.body.innerText.includes("no page")`);
 }
 
-/** How long a move takes is told, and not tried: it depends on what else the machine does. */
-async function tellSpeed() {
-  const took = `(async () => { const began = performance.now(); document.getElementById("on").click(); await new Promise((done) => requestAnimationFrame(() => setTimeout(done)));
-    return performance.now() - began; })()`;
-  await open("even", evenRun(20_000), "#line=9000");
-  const times = [];
-  for (let tries = 0; tries < 9; tries++) times.push(await browser.run(took));
-  times.sort((one, other) => one - other);
-  console.log(`  page: ${browser.name}: of 20,000 events, a move takes ${times[0].toFixed(0)} to ${times[8].toFixed(0)} ms, with the frame that shows it`);
-}
-
 /** Nothing is wider than the window, by width and by light. */
 async function tryLooks() {
   for (const width of [1280, kind.narrow]) {
@@ -121,7 +110,6 @@ async function tryLooks() {
       await browser.light(light);
       await open("crowd", crowd(), "#line=67");
       await expect(`nothing is wider than ${width} pixels`, `document.documentElement.scrollWidth <= ${width}`);
-      if (pictures) fs.writeFileSync(path.join(pictures, `draw-${kind.name}-${width}-${light}.png`), await browser.picture());
     }
   }
   await browser.size(1280, 900);
@@ -131,7 +119,7 @@ async function tryLooks() {
 try {
   await inBrowsers(async (...it) => {
     [browser, kind] = it;
-    for (const tries of [tryTiles, tryKeys, tryCrowd, tellSpeed, tryLooks]) await tries();
+    for (const tries of [tryTiles, tryKeys, tryCrowd, tryLooks]) await tries();
     const wrong = await browser.complaints(pathToFileURL(room).href);
     wrong.forEach((it) => console.log(`  page: ${kind.name}: ${it}`));
     await expect("nothing goes wrong, and nothing is asked of the network", `${wrong.length} === 0`);
