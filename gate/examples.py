@@ -24,9 +24,10 @@ import sys
 import tempfile
 import tomllib
 from concurrent.futures import ThreadPoolExecutor
+from contextlib import ExitStack
 from dataclasses import dataclass, field, replace
 from pathlib import Path
-from typing import IO, Callable, Iterator
+from typing import IO, Iterator
 
 from programs import TOP, Ran, first_difference, is_proved, report, run, tested
 
@@ -136,14 +137,10 @@ def broken(read: bytes) -> socket.socket:
     return its
 
 
-def limited(room: int) -> Callable[[], None]:
-    """Lets the files that a new process writes have so many bytes: a write beyond fails."""
-
-    def limit() -> None:
-        signal.signal(signal.SIGXFSZ, signal.SIG_IGN)
-        resource.setrlimit(resource.RLIMIT_FSIZE, (room, room))
-
-    return limit
+def limit(room: int) -> None:
+    """Lets the files that this process writes have so many bytes: a write beyond fails."""
+    signal.signal(signal.SIGXFSZ, signal.SIG_IGN)
+    resource.setrlimit(resource.RLIMIT_FSIZE, (room, room))
 
 
 def unread() -> IO[bytes]:
@@ -153,62 +150,44 @@ def unread() -> IO[bytes]:
     return os.fdopen(writes, "wb")
 
 
-def run_row(program: Path, words: str, row: Row, room: int | None) -> Ran:
+def run_row(program: Path, words: str, row: Row, room: int | None = None) -> Ran:
     """Runs the program over the row's streams, with room for so many bytes of output where a number is given."""
-    with tempfile.NamedTemporaryFile() as source, tempfile.TemporaryFile() as out, open("/dev/full", "wb") as full, unread() as left:
+    with ExitStack() as opened:
+        source, out = (opened.enter_context(tempfile.NamedTemporaryFile()) for _ in range(2))
         source.write(row.read())
-        source.flush()
         source.seek(0)
-        stdin: IO[bytes] | socket.socket = broken(row.read()) if row.breaks else source.file
         ran = subprocess.run(
             ["hugepool", *shlex.split(words.replace(NAMED, source.name))],
             executable=program,
-            stdin=stdin,
-            stdout=left if row.leaves else out,
-            stderr=full if row.stderr_is_full else subprocess.PIPE,
-            preexec_fn=None if room is None else limited(room),
+            stdin=opened.enter_context(broken(row.read())) if row.breaks else source,
+            stdout=opened.enter_context(unread()) if row.leaves else out,
+            stderr=opened.enter_context(open("/dev/full", "wb")) if row.stderr_is_full else subprocess.PIPE,
+            preexec_fn=None if room is None else lambda: limit(room),
             timeout=SECONDS,
-            check=False,
         )
-        if isinstance(stdin, socket.socket):
-            stdin.close()
         out.seek(0)
         said = (ran.stderr or b"").decode(errors="replace").replace(source.name, NAMED)
         return Ran(ran.returncode, out.read().decode(errors="replace"), said)
 
 
-def rooms(row: Row, most: int) -> list[int]:
-    """For how many bytes of an output of this length there is room; a negative number counts from the end."""
-    if row.room == "every":
-        return list(range(most))
-    return [it if it >= 0 else most + it for it in row.room or []]
-
-
 def front_fault(program: Path, words: str, row: Row) -> str | None:
     """What is wrong where an output has room for a part of what is written: as much of it, and the fault, has to come."""
-    assert row.room == "every" or isinstance(row.room, list), f"{row.name}: no room is {row.room}"
-    whole = (row.stdout if row.stdout is not None else run_row(program, words, row, None).out).encode()
-    for room in rooms(row, len(whole)):
+    whole = (row.stdout if row.stdout is not None else run_row(program, words, row).out).encode()
+    # (a negative number counts from the end)
+    for room in range(len(whole)) if row.room == "every" else (it % len(whole) for it in row.room):
         front = replace(row, stdout=whole[:room].decode(errors="replace"))
         if wrong := fault(front, run_row(program, words, row, room)):
             return f"room for {room} bytes: {wrong}"
     return None
 
 
-def row_fault(program: Path, words: str, row: Row) -> str | None:
-    """What is wrong with the runs of one command line of a row, or with the row itself, if anything is."""
-    try:
-        if row.room is not None:
-            return front_fault(program, words, row)
-        return fault(row, run_row(program, words, row, None))
-    except subprocess.TimeoutExpired:
-        return "it does not end"
-
-
 def row_tries(program: Path, name: str, row: Row) -> Iterator[tuple[str, bool]]:
     """Each command line of a row, and whether it does what the row says."""
     for words in row.words:
-        wrong = row_fault(program, words, row)
+        try:
+            wrong = fault(row, run_row(program, words, row)) if row.room is None else front_fault(program, words, row)
+        except subprocess.TimeoutExpired:
+            wrong = "it does not end"
         yield f"{name}: {program.name} {words}: {wrong}", not wrong
 
 
@@ -223,8 +202,8 @@ def text(name: str, ending: str, otherwise: str = "") -> str:
     return file.read_bytes().decode() if file.is_file() else otherwise
 
 
-def trace_rows() -> Iterator[tuple[str, Row]]:
-    """The traces with what stands beside them."""
+def example_rows() -> Iterator[tuple[str, Row]]:
+    """The traces and scripts with what stands beside them."""
     for name in sorted(names(".trace")):
         trace, status = text(name, ".trace"), int(text(name, ".status", "0"))
         yield name, Row(name, ["replay"], status, trace, stdout=text(name, ".out"), stderr=text(name, ".err"))
@@ -232,6 +211,10 @@ def trace_rows() -> Iterator[tuple[str, Row]]:
             yield name, Row(name, ["explain"], stdin=trace, stdout=text(name, ".explained"))
     for picture in sorted(PICTURES.glob("*.svg")):
         yield picture.name, Row(picture.stem, ["draw"], stdin=text(picture.stem, ".trace"), stdout=picture.read_bytes().decode())
+    for name in sorted(names(".script")):
+        for block in text(name, ".lines").removeprefix("# ").split("\n# "):
+            words, _, lines = block.partition("\n")
+            yield name, Row(name, [words], stdin=text(name, ".script"), stdout=f"{lines.rstrip()}\n")
 
 
 def unlisted(listing: str) -> list[str]:
@@ -249,48 +232,27 @@ def listings() -> Iterator[tuple[str, bool]]:
     yield f"examples/README.md lists each example: {unlisted(listing)}", not unlisted(listing)
 
 
-def output(program: Path, words: str, read: str) -> str:
-    """What the program writes, where it ends well."""
-    ran = run(program, words, read)
-    return ran.out if (ran.status, ran.err) == (0, "") else f"status {ran.status}: {ran.err}"
-
-
-def script_tries(program: Path, name: str) -> Iterator[tuple[str, bool]]:
-    """What is tried with a script, and whether it went as it should."""
+def races(program: Path, name: str) -> Iterator[tuple[str, bool]]:
+    """Whether each race of a script has a line of a closed one, with its number. (A journal is cut of no script whose calls wait.)"""
     script = text(name, ".script")
-    for block in text(name, ".lines").removeprefix("# ").split("\n# "):
-        words, _, lines = block.partition("\n")
-        lines = f"{lines.rstrip()}\n"
-        printed = output(program, words, script)
-        yield f"{name}: {words}: {first_difference(printed.split(chr(10)), lines.split(chr(10)))}", printed == lines
     for options in (*CUTS, CHANCES, f"{CHANCES} --cut 2"):
-        ran = run(program, f"race --times {RACES}{options}", script)
-        if script.startswith("script ") and " --cut " in options:
-            yield f"{name}: race{options} takes no script whose calls wait", (ran.status, ran.out) == (1, "")
+        if "--cut" in options and script.startswith("script "):
             continue
-        fault = race_fault(ran)
-        yield f"{name}: race{options}: {fault}", not fault
-
-
-def race_fault(ran: Ran) -> str | None:
-    """What is wrong with a script's races, if anything is: each has a line of a closed race with its number."""
-    lines = ran.out.splitlines()
-    wrong = [line for k, line in enumerate(lines) if not (RACED.fullmatch(line) and line.startswith(f"run {k} "))]
-    if ran.status or wrong or len(lines) != RACES:
-        return f"status {ran.status}, {len(lines)} lines, {ran.err!r}, of which are wrong {wrong[:1]}"
-    return None
+        ran = run(program, f"race --times {RACES}{options}", script)
+        lines = ran.out.splitlines()
+        wrong = [line for k, line in enumerate(lines) if not (RACED.fullmatch(line) and line.startswith(f"run {k} "))]
+        said = f"status {ran.status}, {len(lines)} lines, {ran.err!r}, of which are wrong {wrong[:1]}"
+        yield f"{name}: race{options}: {said}", ran.status == 0 and not wrong and len(lines) == RACES
 
 
 def tries(program: Path, pool: ThreadPoolExecutor) -> Iterator[tuple[str, bool]]:
     """What is tried, and whether it went as it should."""
     yield from listings()
-    several = [*trace_rows(), *rows_below(COMMANDS)]
-    yield "there are rows", bool(several)
-    large = [it for it in several if len(it[1].read()) > LARGE and not is_proved()]
+    several = [*example_rows(), *rows_below(COMMANDS)]
+    large = [] if is_proved() else [it for it in several if len(it[1].read()) > LARGE]
     print(f"left out: {len(large)} rows of large inputs: they need the proved program\n" if large else "", end="")
-    several = [it for it in several if it not in large]
-    begun = [pool.submit(lambda name=name: [*script_tries(program, name)]) for name in sorted(names(".script"))]
-    begun += [pool.submit(lambda it=it: [*row_tries(program, *it)]) for it in several]
+    begun = [pool.submit(lambda name=name: [*races(program, name)]) for name in sorted(names(".script"))]
+    begun += [pool.submit(lambda it=it: [*row_tries(program, *it)]) for it in several if it not in large]
     for it in begun:
         yield from it.result()
 

@@ -1,13 +1,11 @@
 #!/usr/bin/env python3
-"""Tests which program ./hugepool runs, when it compiles or proves one, how libraries are proved side by side, which mutants are due, and
-that a script which tried nothing fails.
+"""Tests which program ./hugepool runs, when it compiles or proves one, how libraries are proved side by side, and which mutants are due.
 
 Each is tried in a small repository with a stand-in for `rt`, which counts its calls, and builds programs that print how they were built.
 As the toolchain's module it notes when each library is begun and built, and refuses one that is begun before those below it are built.
 """
 from __future__ import annotations
 
-import io
 import os
 import shutil
 import signal
@@ -16,7 +14,6 @@ import sys
 import tempfile
 import time
 from concurrent.futures import ThreadPoolExecutor
-from contextlib import redirect_stdout
 from pathlib import Path
 from typing import Callable, Iterable, Iterator
 
@@ -331,17 +328,7 @@ def tries_in(part: Callable, crates: dict[str, list[str]] | None) -> list[tuple[
         return [*part(Room(Path(name), crates) if crates else Path(name))]
 
 
-def reported(tried: list[tuple[str, bool]]) -> tuple[int, str]:
-    """The status of a script that tried this, and what it prints."""
-    said = io.StringIO()
-    with redirect_stdout(said):
-        return report("x", tried), said.getvalue()
-
-
 def tries() -> Iterator[tuple[str, bool]]:
-    yield "what tried nothing failed", reported([]) == (1, "  nothing was tried\nx: 0 passed, 1 failed\n")
-    yield "what went well is counted", reported([("a", True), ("b", True)]) == (0, "x: 2 passed, 0 failed\n")
-    yield "what went wrong is told", reported([("a", True), ("b", False)]) == (1, "  not so: b\nx: 1 passed, 1 failed\n")
     parts = [*((part, CRATES) for part in (unproved, proofs, staleness)), (stands_on, crates_of()), (side_by_side, SIDE_BY_SIDE)]
     parts.append((dues, None))
     with ThreadPoolExecutor(len(parts)) as pool:

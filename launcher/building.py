@@ -91,21 +91,11 @@ def say(text: str) -> None:
     print(f"hugepool: {text}", file=sys.stderr, flush=True)
 
 
-def marker_of(program: Path) -> Path:
-    return program.with_name(f"{program.name}.begun")
-
-
-def is_built_since(program: Path, moment: float) -> bool:
-    """Whether a build of the program ended well after this moment, in seconds of the clock."""
-    try:
-        return marker_of(program).stat().st_ctime > moment
-    except FileNotFoundError:
-        return False
-
-
 @contextmanager
-def alone(program: Path) -> Iterator[None]:
-    """Waits until no other call builds the program, and keeps others waiting while the block runs."""
+def marked(program: Path, moment: float, sources: str, words: list[str]) -> Iterator[None]:
+    """Marks the program as built from these sources where the block ends well, and keeps other calls that build it waiting. What is written
+    meanwhile is newer than the mark. Where another call has built it since that moment, it begins anew with the launcher, which finds out
+    whether that is current."""
     program.parent.mkdir(parents=True, exist_ok=True)
     with open(program.with_name(f"{program.name}.lock"), "w", encoding="utf-8") as lock:
         try:
@@ -114,17 +104,9 @@ def alone(program: Path) -> Iterator[None]:
             say(f"another call is building {program.name}; waiting for it")
             with SIGNALS.raising():
                 fcntl.flock(lock, fcntl.LOCK_EX)
-        yield
-
-
-@contextmanager
-def marked(program: Path, moment: float, sources: str, words: list[str]) -> Iterator[None]:
-    """Marks the program as built from these sources where the block ends well. What is written meanwhile is newer than the mark. Where
-    another call has built it since that moment, it begins anew with the launcher, which finds out whether that is current."""
-    with alone(program):
-        if is_built_since(program, moment):
+        marker = program.with_name(f"{program.name}.begun")
+        if marker.exists() and marker.stat().st_ctime > moment:
             os.execv(TOP / "hugepool", [str(TOP / "hugepool"), *words])
-        marker = marker_of(program)
         beginning = marker.with_suffix(".next")
         marker.unlink(missing_ok=True)
         beginning.write_text(f"{sources}\n", encoding="utf-8")

@@ -9,6 +9,7 @@ is not documented.
 """
 from __future__ import annotations
 
+import contextlib
 import os
 import subprocess
 import sys
@@ -19,44 +20,25 @@ from pathlib import Path
 import building
 from building import BuildFailed, Interrupted, Line, SIGNALS, TOP
 
-# seconds that each took to compile on an idle machine (2026-11-28); what it took here the last time stands in a file beside the program
+# seconds that each took to compile on an idle machine (2026-11-28)
 SECONDS = {"replay": 25, "hugepool": 80}
-TOOK = "unproved.seconds"
 # what the program reads while it is looked for: a trace that it works on for a moment
 TRACE = b"pool 1 1 1 1\n" + 20_000 * b"step 1\n"
 PAUSE = 0.02
 
 
-def take(room: Path, to: Path) -> bool:
-    """Links the program that runs in the room, if there is one, and returns whether there was."""
-    for file in room.glob("*/*/program"):
-        to.unlink(missing_ok=True)
-        try:
-            os.link(file, to)
-        except OSError:
-            return False
-        return True
-    return False
-
-
-def usual(crate: str) -> str:
-    """What a compilation takes, as it is announced."""
-    took = TOP / "crates" / crate / "out" / TOOK
-    if took.is_file():
-        return f"the last one took {took.read_text(encoding='utf-8')} s"
-    return f"an idle machine takes {SECONDS.get(crate, 100)} s"
-
-
 def follow(ran: subprocess.Popen, room: Path, to: Path, crate: str) -> bool:
     """Waits until `rt try` ends, shows how far it is, and returns whether the program that it ran was kept."""
-    began, line, is_taken, announced = time.monotonic(), Line(), False, usual(crate)
+    began, line, usual, is_taken = time.monotonic(), Line(), SECONDS.get(crate, 100), False
     while ran.poll() is None:
         SIGNALS.look()
-        is_taken = is_taken or take(room, to)
-        line.show(lambda: f"compiling without proof, {time.monotonic() - began:.0f} s so far; {announced}")
+        for file in () if is_taken else room.glob("*/*/program"):
+            with contextlib.suppress(OSError):
+                os.link(file, to)
+                is_taken = True
+        line.show(lambda: f"compiling without proof, {time.monotonic() - began:.0f} s so far; an idle machine takes {usual} s")
         time.sleep(PAUSE)
     line.clear()
-    (TOP / "crates" / crate / "out" / TOOK).write_text(f"{time.monotonic() - began:.0f}", encoding="utf-8")
     return is_taken
 
 
