@@ -5,7 +5,7 @@ usage: ./check [--install] [STEP] [..]
   ./check              all tests that need no proof: over the proved program if it is current, else over the one compiled without proof
   ./check all          every proof, from nothing (rt ci); these tests; and the mutants that are due
   ./check proofs       the proofs alone
-  ./check mutants [CRATE ..] [--all] [--each]
+  ./check mutants [CRATE ..] [--all]
                        the mutants: wrong bodies that the prover must refuse; of crates that are named, of those that are due, or of all
   ./check examples     what the program writes of the examples, of every size, at terminals, in threads and on streams that fail;
                        what ./hugepool compiles and proves; documents that show what commands print

@@ -29,7 +29,7 @@ from dataclasses import dataclass, field, replace
 from pathlib import Path
 from typing import IO, Iterator
 
-from programs import TOP, Ran, first_difference, is_proved, report, run, tested
+from programs import TOP, Ran, closed, first_difference, is_proved, report, run, tested
 
 FOLDER = TOP / "examples"
 COMMANDS = FOLDER / "commands"
@@ -47,7 +47,6 @@ SECONDS = 600
 NAMED = "{file}"
 # `LINE x12` stands for twelve lines
 REPEATED = re.compile(r"^(.*) x(\d+)$", re.MULTILINE)
-RACED = re.compile(r"run \d+ closed entries \d+ free \d+ resv \d+")
 
 
 @dataclass(frozen=True)
@@ -239,10 +238,8 @@ def races(program: Path, name: str) -> Iterator[tuple[str, bool]]:
         if "--cut" in options and script.startswith("script "):
             continue
         ran = run(program, f"race --times {RACES}{options}", script)
-        lines = ran.out.splitlines()
-        wrong = [line for k, line in enumerate(lines) if not (RACED.fullmatch(line) and line.startswith(f"run {k} "))]
-        said = f"status {ran.status}, {len(lines)} lines, {ran.err!r}, of which are wrong {wrong[:1]}"
-        yield f"{name}: race{options}: {said}", ran.status == 0 and not wrong and len(lines) == RACES
+        is_right = ran.status == 0 and len(closed(ran.out) or []) == RACES
+        yield f"{name}: race{options}: {'' if is_right else ran}", is_right
 
 
 def tries(program: Path, pool: ThreadPoolExecutor) -> Iterator[tuple[str, bool]]:

@@ -22,7 +22,7 @@ from concurrent.futures import ThreadPoolExecutor
 from pathlib import Path
 from typing import Iterable, Iterator, NamedTuple
 
-from programs import TOP, WORDS, Ran, commands, is_current, is_proved, program_of, report, run, status_of, tested
+from programs import TOP, WORDS, Ran, closed, commands, example, is_current, is_proved, program_of, report, run, status_of, tested
 
 # the status of a run that does not end
 HANGS = -1
@@ -38,7 +38,6 @@ FAILED_WRITE = f"hugepool: writing failed\n{FAILED}"
 STORIES = TOP / "crates" / "hp_memory_tests" / "stories.toml"
 # what is told of something that was refused memory; where that was a call in flight, the journal isn't cut then
 RETRIED = re.compile(r"^(?:.* of (?P<task>\d)|\w+): out of memory\n(?:cut: task (?P=task) has a call in flight\n)?", re.MULTILINE)
-RACED = re.compile(r"run \d+ closed entries \d+ free \d+ resv \d+")
 LATE = re.compile(r"run 0 late entries \d+ free \d+ resv \d+\n")
 # by chance some tasks may have ended their calls before others begin, so it is tried so often
 RACES = 40
@@ -101,10 +100,8 @@ class Case(NamedTuple):
             header = right.split("\n")[0]
             return header.startswith(out[: len(header)])
         if self.alike == "races":
-            lines = out.splitlines()
-            closed = all(RACED.fullmatch(line) and line.startswith(f"run {k} ") for k, line in enumerate(lines))
-            missing = right.count("\n") - len(lines)
-            return closed and out.count("\n") == len(lines) and (missing == 0 or missing > 0 and not is_whole)
+            missing = right.count("\n") - out.count("\n")
+            return closed(out) is not None and (missing == 0 or missing > 0 and not is_whole)
         return out == right if is_whole else right.startswith(out)
 
     def is_whole(self, right: Told, told: Told) -> bool:
@@ -171,10 +168,6 @@ class Story(NamedTuple):
 
     def missing(self, _: Told, several: list[Told]) -> Iterator[str]:
         yield from (f"in no run is told {it!r}" for it in self.brought if not any(it in told.out for told in several))
-
-
-def example(name: str) -> str:
-    return (TOP / "examples" / name).read_text(encoding="utf-8")
 
 
 def crowd(tasks: int) -> str:

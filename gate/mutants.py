@@ -1,12 +1,12 @@
 #!/usr/bin/env python3
 """Tries the mutants: the prover must refuse each wrong body for its own sake.
 
-usage: ./check mutants [CRATE ..] [--all] [--each]
+usage: ./check mutants [CRATE ..] [--all]
 
 Of crates that are named it tries all mutants. Without a name it tries those of each crate of which a commit since the time in
 gate/tried.txt changed more than comments in src/, specs/, edits/, must-fail/ or must-not-compile/, or that has any change there
-uncommitted. With --all it tries all. Where all of a crate are refused, and none of its files is changed, the time at which the trial began stands in that file then:
-first that of all, and behind it those of crates that were tried later.
+uncommitted. With --all it tries all. Where all of a crate are refused, and none of its files is changed, the time at which the trial
+began stands in that file then: first that of all, and behind it those of crates that were tried later.
 
 The mutants of a crate stand in its folders must-fail/ (those that the toolchain's gate tries too), edits/ and must-not-compile/
 (those that the compiler refuses, with the error that they name). One check tries all wrong bodies of plain functions, as siblings of
@@ -27,7 +27,6 @@ import sys
 import tempfile
 import threading
 from concurrent.futures import ThreadPoolExecutor, as_completed
-from dataclasses import dataclass
 from datetime import datetime, timezone
 from pathlib import Path
 from typing import Iterable, Iterator
@@ -70,39 +69,23 @@ def try_to_compile(crate: Path, scratch: Scratch, mutant: Mutant) -> Result:
     return Result(mutant.name, is_refused, why)
 
 
-@dataclass
-class Tried:
-    """The results of a crate's mutants, and what they took."""
-
-    name: str
-    results: list[Result]
-    controls: int = 0
-    checks: int = 0
-    seconds: float = 0.0
-
-    def line(self) -> str:
-        refused = sum(it.is_refused for it in self.results)
-        cost = f"in {self.checks} checks and {self.seconds:.0f} s of processor time"
-        return f"{self.name}: {refused} of {len(self.results)} mutants refused, {self.controls} controls proved, {cost}"
-
-
 class Trial:
-    """The trial of one crate's mutants. `room` is where copies are made, `jobs` how many processors it may use."""
+    """The trial of one crate's mutants, and its results. `room` is where copies are made, `jobs` how many processors it may use."""
 
     def __init__(self, top: Path, name: str, room: Path, jobs: int) -> None:
-        self.top, self.crate, self.room, self.jobs = top, top / "crates" / name, room, jobs
-        self.tried = Tried(name, [])
+        self.top, self.name, self.crate, self.room, self.jobs = top, name, top / "crates" / name, room, jobs
+        self.results, self.controls, self.cost = [], 0, ""
 
-    def run(self) -> Tried:
-        mutants, self.tried.results = mutants_of(self.crate)
-        scratch = Scratch(self.top, self.tried.name, Path(tempfile.mkdtemp(prefix=f"{self.tried.name}-", dir=self.room)))
+    def run(self) -> Trial:
+        mutants, self.results = mutants_of(self.crate)
+        scratch = Scratch(self.top, self.name, Path(tempfile.mkdtemp(prefix=f"{self.name}-", dir=self.room)))
         to_prove = [it for it in mutants if not it.error]
         refused = self.try_siblings(scratch, family_of(self.crate, to_prove))
         left = [it for it in to_prove if it not in refused]
-        self.tried.results += try_in_place(scratch, left)
-        self.tried.results += [try_to_compile(self.crate, scratch, it) for it in mutants if it.error]
-        self.tried.checks, self.tried.seconds = scratch.checks, scratch.seconds
-        return self.tried
+        self.results += try_in_place(scratch, left)
+        self.results += [try_to_compile(self.crate, scratch, it) for it in mutants if it.error]
+        self.cost = f"in {scratch.checks} checks and {scratch.seconds:.0f} s of processor time"
+        return self
 
     def try_siblings(self, scratch: Scratch, family: Family) -> set[Mutant]:
         """Tries all siblings in one check, which shows as well whether the crate itself is proved, and returns the mutants that are
@@ -115,7 +98,7 @@ class Trial:
             family = family.without(self.crate, {it.mutant for it in family.siblings})
             check = scratch.check(family.texts, self.jobs)
         if not check.is_judged or strays(self.crate, family, check):
-            self.tried.results.append(Result(UNPROVED, False, "without any edit the crate isn't proved, so its refusals say nothing"))
+            self.results.append(Result(UNPROVED, False, "without any edit the crate isn't proved, so its refusals say nothing"))
         return self.refused(family, check)
 
     def refused(self, family: Family, check: Check) -> set[Mutant]:
@@ -125,13 +108,16 @@ class Trial:
         faulty = {it.place.function for it in wrong}
         found = {it.mutant for it in family.siblings if it.mutant and check.is_refused_of(it.function) and it.place.function not in faulty}
         why = "CONTROL REFUSED: the right body isn't proved as a sibling"
-        self.tried.results += [Result(f"{it.place.function}", False, why) for it in wrong]
-        self.tried.results += [Result(it.name, True, "refused") for it in found]
-        self.tried.controls += len(controls) - len(wrong)
+        self.results += [Result(f"{it.place.function}", False, why) for it in wrong]
+        self.results += [Result(it.name, True, "refused") for it in found]
+        self.controls += len(controls) - len(wrong)
         return found
 
+    def faults(self) -> list[str]:
+        return [f"  {self.name}/{it.name}: {it.why}" for it in sorted(self.results, key=lambda it: it.name) if not it.is_refused]
 
-def try_crates(top: Path, names: Iterable[str]) -> Iterator[Tried]:
+
+def try_crates(top: Path, names: Iterable[str]) -> Iterator[Trial]:
     """Tries the mutants of these crates side by side, those with the most first, and gives each crate's results as it ends."""
     lanes = os.cpu_count() or 1
     numbers = {it: len(mutants_of(top / "crates" / it)[0]) for it in names}
@@ -189,21 +175,17 @@ def note_tried(names: Iterable[str], began: datetime, is_all: bool) -> None:
     TRIED.write_text("".join(f"{line}\n" for line in lines), encoding="utf-8")
 
 
-def lines_of(tried: Tried, is_each_told: bool) -> list[str]:
-    told = (it for it in sorted(tried.results, key=lambda it: it.name) if is_each_told or not it.is_refused)
-    return [f"  {tried.name}/{it.name}: {it.why}" for it in told]
-
-
-def try_all(picked: set[str], is_all: bool, is_each_told: bool) -> int:
+def try_all(picked: set[str], is_all: bool) -> int:
     """Tries the mutants of these crates, and returns the status."""
     refused, faults, began = 0, [], datetime.now(timezone.utc)
     if not build_libraries(sorted(picked)):
         print("check: the libraries below these crates aren't proved, so no mutant was tried")
         return 1
     for tried in try_crates(TOP, picked):
-        print("\n".join([tried.line(), *lines_of(tried, is_each_told)]), flush=True)
-        wrong = lines_of(tried, False)
-        refused, faults = refused + len(tried.results) - len(wrong), faults + wrong
+        wrong, number = tried.faults(), len(tried.results)
+        told = f"{tried.name}: {number - len(wrong)} of {number} mutants refused, {tried.controls} controls proved, {tried.cost}"
+        print("\n".join([told, *wrong]), flush=True)
+        refused, faults = refused + number - len(wrong), faults + wrong
         note_tried([] if wrong or is_all else [tried.name], began, False)
     # (once more, since the lines of other crates may stand behind them)
     print("\n".join([*faults, f"mutants: {refused} passed, {len(faults)} failed"]))
@@ -222,7 +204,6 @@ def main() -> int:
     words = argparse.ArgumentParser(prog="./check mutants", description=__doc__.split("\n")[0])
     words.add_argument("crates", nargs="*", metavar="CRATE", help="the crates whose mutants are tried; none: those that are due")
     words.add_argument("--all", action="store_true", help="try the mutants of all crates")
-    words.add_argument("--each", action="store_true", help="print a line for each mutant, not for faults alone")
     words.add_argument("--apply", action="store_true", help="try none, and say whether each applies")
     given = words.parse_args()
     numbers = {it: len(mutants_of(TOP / "crates" / it)[0]) for it in crates_of(TOP)}
@@ -235,7 +216,7 @@ def main() -> int:
     picked = every if given.all else set(given.crates) & every if given.crates else due(TOP, TRIED.read_text(encoding="utf-8"), every)
     few = sum(numbers[it] for it in picked)
     print(f"mutants: {few} of {sum(numbers.values())} are due, in {len(picked)} crates: {' '.join(sorted(picked))}", flush=True)
-    return try_all(picked, given.all, given.each) if picked else 0
+    return try_all(picked, given.all) if picked else 0
 
 
 if __name__ == "__main__":

@@ -30,6 +30,9 @@ WORDS = {
 }
 
 
+RACED = re.compile(r"run (\d+) closed entries (\d+) free (\d+) resv (\d+)")
+
+
 class Ran(NamedTuple):
     """A run's status and both streams."""
 
@@ -45,6 +48,17 @@ def run(program: Path, words: str, read: str | bytes = b"", **how) -> Ran:
     how = {"capture_output": True, "timeout": 3600, **how}
     ran = subprocess.run(["hugepool", *shlex.split(words)], executable=program, input=given, **how)
     return Ran(ran.returncode, ran.stdout.decode(errors="replace"), ran.stderr.decode(errors="replace"))
+
+
+def closed(out: str) -> list[tuple[int, ...]] | None:
+    """Of each race its entries, free frames and reserve count, where each whole line is that of a closed one, with its number."""
+    found = [RACED.fullmatch(line) for line in out.splitlines()]
+    is_right = out.count("\n") == len(found) and all(it and int(it[1]) == number for number, it in enumerate(found))
+    return [tuple(map(int, it.groups()[1:])) for it in found] if is_right else None
+
+
+def example(name: str) -> str:
+    return (TOP / "examples" / name).read_text(encoding="utf-8")
 
 
 def first_difference(printed: list[str], wanted: list[str]) -> str:

@@ -23,7 +23,7 @@ from pathlib import Path
 from typing import Iterator
 
 import reasons
-from programs import TOP, is_proved, report, run, tested
+from programs import TOP, example, is_proved, report, run, tested
 
 BOX = re.compile(r"<rect class='([^']*)' x='(\d+)' y='(\d+)' width='(\d+)' height='(\d+)'/>")
 NUMBER = re.compile(r"<text class='at' x='(\d+)' y='\d+'>(\d+)</text>")
@@ -41,10 +41,6 @@ POOL = "pool 4 1 4 2\n"
 SHORT = POOL + "begin 1 trunc 0 0\n"
 LONG = SHORT + "step 1\n"
 UNSAVED = "the events so far are in no file: save FILE keeps them, the line again drops them\n"
-
-
-def example(name: str) -> str:
-    return (TOP / "examples" / name).read_text(encoding="utf-8")
 
 
 def output(words: str, read: str) -> str:

@@ -21,7 +21,7 @@ from concurrent.futures import ThreadPoolExecutor
 from pathlib import Path
 from typing import Iterable, Iterator
 
-from programs import TOP, Ran, is_proved, report, run, tested
+from programs import TOP, Ran, closed, is_proved, report, run, tested
 
 PLAIN = TOP / "bench" / "plain"
 # the largest pool
@@ -30,7 +30,6 @@ FRAMES, FILES, SLOTS, TASKS, LIMIT, PAGES = 4_096, 16, 64, 64, 4_096, 16_384
 SEEDS = [0, 1, 2**32, 2**63 - 1, 2**63, 2**63 + 12_345, 2**64 - 1]
 # chances, of a thousand, at both ends and in pairs
 CHANCES = [(0, 0), (1, 0), (0, 1), (999, 999), (1000, 0), (0, 1000), (500, 501), (501, 500), (1000, 1000)]
-RACED = re.compile(r"run \d+ closed entries (\d+) free (\d+) resv (\d+)")
 # the pool of a long race, and its tasks
 SOAKED, RACERS = "pool 24 3 8 8", 8
 # steps that are more than any call of a page makes
@@ -114,8 +113,7 @@ def made(told: str) -> int:
 def raced(program: Path, words: str, read: str) -> tuple[int, ...]:
     """The entries, free frames and reserve count of one race, if it was closed."""
     ran = run(program, f"race --times 1{words}", read)
-    found = RACED.fullmatch(ran.out.strip()) if ran.status == 0 else None
-    return tuple(map(int, found.groups())) if found else ()
+    return next(iter(closed(ran.out) or [()])) if ran.status == 0 else ()
 
 
 def sizes(program: Path) -> Iterator[tuple[str, bool]]:
