@@ -9,7 +9,7 @@ import tempfile
 from dataclasses import dataclass, field
 from itertools import product
 from pathlib import Path
-from typing import Callable
+from typing import Callable, NamedTuple
 
 from edit import PARTS, Function, Mutant, Texts
 from programs import below, crates_of
@@ -20,7 +20,8 @@ ITEM = re.compile(r"^(?:struct|enum|impl|trait|const|static) (\S+): (.*)$")
 # an open goal, printed right before its function's line
 OPEN_GOAL = re.compile(r"^note: \S+:\d+:\d+: ")
 IN_PROOFS = re.compile(r"^(?:\./)?proofs/(\S+)/(?:Answers|Invariants|Proof)\.antt:\d+:\d+: error: (.*)$")
-ERROR = re.compile(r"^(?:\./)?(\S+?):(\d+):\d+: error(?:\[[\w-]+\])?: (.*)$")
+ERROR = re.compile(r"^(?:\./)?(\S+?):(\d+):\d+: error(?:\[[\w-]+\])?: ")
+VERDICT = re.compile(r"^logic=(?:proved |not-proved)", re.M)
 # the errors of a proof that names what an edit removed: they say nothing about the contract
 ONLY_A_NAME = re.compile(r"has no field|is not in scope|has no `|was not admitted")
 # the line of a proved function, which may add a condition on its callers, or what it may do
@@ -47,38 +48,27 @@ class Told:
         return not self.is_proved and not CALLS.search(self.line) and bool(has_reason)
 
 
-@dataclass(frozen=True)
-class Error:
-    """An error of the compiler or the prover, and its place."""
+class Error(NamedTuple):
+    """The place of an error of the compiler or the prover."""
 
     file: str
     line: int
-    text: str
 
 
 @dataclass
 class Check:
-    """A whole check: its output, its functions by their paths below the crate, the refused types and impls, and the errors."""
+    """A whole check: whether it ended with a verdict, its functions by their paths below the crate, the refused types and impls, and the
+    errors."""
 
-    crate: str
-    output: str
+    has_verdict: bool
     functions: dict[str, Told]
     refused_items: list[str]
     errors: list[Error]
 
     @property
-    def is_proved(self) -> bool:
-        return bool(re.search(r"^logic=proved ", self.output, re.M))
-
-    @property
-    def is_read(self) -> bool:
-        """Whether the definitions could be read: a false one reads as well as a true one."""
-        return not any(it.file.startswith("specs/") for it in self.errors)
-
-    @property
     def is_judged(self) -> bool:
-        """Whether the prover reached a verdict: it neither stopped before nor ran into a limit."""
-        return self.is_read and (self.is_proved or bool(re.search(r"^logic=not-proved", self.output, re.M)))
+        """Whether the prover neither stopped before, nor ran into a limit, nor judged by definitions that it couldn't read."""
+        return self.has_verdict and not any(it.file.startswith("specs/") for it in self.errors)
 
     def of(self, function: Function) -> list[Told]:
         """The lines of a function and of its closures."""
@@ -108,7 +98,7 @@ def read(crate: str, output: str) -> Check:
     functions, items, errors, in_proofs, goals = {}, [], [], {}, 0
     for line in output.split("\n"):
         if made := ERROR.match(line):
-            errors.append(Error(made[1], int(made[2]), made[3]))
+            errors.append(Error(made[1], int(made[2])))
         if made := IN_PROOFS.match(line):
             in_proofs.setdefault(made[1].replace("/", "::"), []).append(made[2])
         elif OPEN_GOAL.match(line):
@@ -121,7 +111,7 @@ def read(crate: str, output: str) -> Check:
     for path, said in in_proofs.items():
         if path in functions:
             functions[path].errors = said
-    return Check(crate, output, functions, items, errors)
+    return Check(bool(VERDICT.search(output)), functions, items, errors)
 
 
 def link_or_copy(source: str, to: str) -> None:

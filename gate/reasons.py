@@ -48,7 +48,6 @@ SAID = [
 ]
 # those lines of them that the loose form has
 LOOSE = {"step 1\r", "step  1", "step 1 ", "", "step\t1"}
-EMPTY = "hugepool: if another command writes it, that command may have failed\n"
 FORMAT = "hugepool: hugepool format accepts this line, and prints a trace that this command accepts\n"
 SAID_OF_HEADERS = [
     ("step 1", "a header begins with pool, not with step"),
@@ -121,10 +120,4 @@ def tries(program: Path) -> Iterator[tuple[str, bool]]:
         shown = {9: "\\t"}.get(byte, f"\\x{byte:02x}")
         said = run(program, "check", f"{HEADER}\nstep ".encode() + bytes([byte]) + b"\n")
         yield f"byte {byte} is shown", said == said_of(2, f"step {shown}", f"byte {byte} is not allowed in a line")
-    marked = run(program, "check", b"\xef\xbb\xbf" + f"{HEADER}\n".encode())
-    yield "a byte order mark", marked == said_of(1, f"\\xef\\xbb\\xbf{HEADER}", "the header begins with a byte order mark", True)
-    empty = said_of(1, "", "the input is empty")
-    yield "an empty trace", run(program, "check") == empty._replace(err=empty.err + EMPTY)
-    cut = run(program, "check", f"{HEADER}\nstep 1")
-    yield "a line without its end", cut == said_of(2, "step 1", "the last line has no line feed", True)
     yield from long_lines(program)

@@ -72,16 +72,16 @@ def told_of(launcher: Path, words: str, read: bytes, **more: str) -> Ran:
     return run(launcher, words, read, env={**own, **more})
 
 
-def change(copy: Path) -> Iterator[tuple[str, bool]]:
-    """Changes the copy, and tells whether each text stood there once."""
+def change(copy: Path) -> None:
+    """Changes the copy."""
     sources = {copy / file.relative_to(TOP): text for file, text in sources_of(of_program()).items()}
     for mark, pairs in CHANGES:
-        files = [file for file, text in sources.items() if mark in text]
-        yield f"one source has {mark.strip()}", len(files) == 1
-        for old, new in pairs if len(files) == 1 else ():
-            text = files[0].read_text(encoding="utf-8")
-            yield f"{files[0].name} has once: {old.strip()}", text.count(old) == 1
-            files[0].write_text(text.replace(old, new), encoding="utf-8")
+        [(file, text)] = [it for it in sources.items() if mark in it[1]]
+        for old, new in pairs:
+            if text.count(old) != 1:
+                sys.exit(f"unproved: {file.name} has {text.count(old)} times, and not once: {old.strip()}")
+            text = text.replace(old, new)
+        file.write_text(text, encoding="utf-8")
 
 
 def same(copy: Path, command: str, pool: ThreadPoolExecutor) -> Iterator[tuple[str, bool]]:
@@ -121,7 +121,7 @@ def disagreements(copy: Path) -> Iterator[tuple[str, bool]]:
 
 def tries(copy: Path, pool: ThreadPoolExecutor) -> Iterator[tuple[str, bool]]:
     """What is tried, and whether it went as it should."""
-    yield from change(copy)
+    change(copy)
     first = told_of(copy / "hugepool", "replay", b"pool 1 1 1 1\n")
     yield "the program that only replays is compiled first", compiled(copy) == ["replay"] and first.err.count(NOTICE) == 1
     yield from same(copy, "replay", pool)

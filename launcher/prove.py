@@ -6,9 +6,9 @@ usage: prove.py MOMENT SOURCES WORD ..
        prove.py one FOLDER JOBS           proves and builds one library, over libraries that are built
 
 What is proved, and how it is kept, is the toolchain's own doing; `rt run` afterwards finds each library built, and proves and builds the
-program. Where the toolchain's module can't be used, `rt run` does all of it, one library after another.
+program.
 
-The module is the one way to prove libraries side by side, and this file the one place that loads it: `rt lib` locks all crates below its
+The toolchain's module is the one way to prove libraries side by side, and this file the one place that loads it: `rt lib` locks all crates below its
 own, and all stand on one; `rt all check` gives each crate one job. Meanwhile this holds the locks.
 """
 from __future__ import annotations
@@ -22,7 +22,7 @@ from importlib.machinery import SourceFileLoader
 from importlib.util import module_from_spec, spec_from_loader
 from pathlib import Path
 from types import ModuleType
-from typing import Iterator
+from typing import Callable, Iterator
 
 import building
 from building import BuildFailed, Interrupted, SIGNALS, TOP, say
@@ -61,9 +61,8 @@ def prove_one(folder: str, jobs: str) -> int:
     """What `rt lib` does, without its locks."""
     os.chdir(folder)
     rt = load()
-    # (versions of the toolchain from 13f on share what copies of a repository on one machine have proved)
-    if hasattr(rt, "share_work"):
-        rt.share_work(True)
+    # (copies of a repository on one machine share what they have proved)
+    rt.share_work(True)
     crate = rt.rtlib.Crate(folder, rt.rtlib.root_above(folder), {})
     return crate.build_rlib(["--jobs", jobs], anew=False)
 
@@ -118,41 +117,22 @@ def prove_libraries(names: list[str], logs: Path, program: str = "") -> Proving:
     return proving
 
 
-def build_program(proving: Proving) -> None:
-    """Has the toolchain prove the program over the libraries, and build it."""
+def build(logs: Path) -> None:
+    """Proves and builds the libraries side by side, and has the toolchain prove the program over them, and build it."""
+    proving = prove_libraries(["hugepool"], logs, "hugepool")
     program = proving.left.pop()
-    jobs, log = proving.jobs_that_fit(program, proving.processors), proving.logs / f"{program.name}.log"
+    jobs, log = proving.jobs_that_fit(program, proving.processors), logs / f"{program.name}.log"
     proving.follow(Run(program, jobs, begin(["rt", "run", "--jobs", str(jobs), "--", "--help"], program.folder, log), log))
     proving.prove()
-
-
-def build(logs: Path) -> None:
-    """Proves and builds the program."""
-    try:
-        proving = prove_libraries(["hugepool"], logs, "hugepool")
-    except Unusable as why:
-        say(f"proving one library after another, since the toolchain's module can't be used: {why}")
-        alone = Library("hugepool", str(CRATE), frozenset(), UNKNOWN, MIB)
-        build_program(Proving([alone], set(), os.cpu_count() or 1, 1e12, logs))
-        return
-    build_program(proving)
     note_weights(proving)
 
 
-def build_marked(moment: float, sources: str, words: list[str]) -> None:
-    """Builds the program, unless another call did so since this one looked."""
-    began, logs = time.monotonic(), CRATE / "out" / "proving"
-    with building.marked(PROGRAM, moment, sources, words):
-        reporting(build, logs)
-    say(f"the program is proved and built, in {(time.monotonic() - began) / 60:.1f} min")
-
-
-def reporting(prove, *given) -> None:
-    """Does this, and shows what the prover said of what isn't proved. The last that is given are the logs."""
+def reporting(logs: Path, prove: Callable, *given) -> None:
+    """Does this, and shows what the prover said of what isn't proved, which stands in the logs."""
     try:
-        prove(*given)
+        prove(*given, logs)
     except NotProved as name:
-        said = (given[-1] / f"{name}.log").read_text(encoding="utf-8", errors="replace")
+        said = (logs / f"{name}.log").read_text(encoding="utf-8", errors="replace")
         raise BuildFailed(f"{said}hugepool: the build failed: {name} is not proved") from name
     except Unusable as why:
         raise BuildFailed(f"hugepool: the toolchain's module can't be used: {why}") from why
@@ -164,9 +144,12 @@ def main(words: list[str]) -> int:
     SIGNALS.catch()
     try:
         if words[0] == "libraries":
-            reporting(prove_libraries, words[1:], TOP / "out" / "proving")
+            reporting(TOP / "out" / "proving", prove_libraries, words[1:])
             return 0
-        build_marked(float(words[0]), words[1], words[2:])
+        began = time.monotonic()
+        with building.marked(PROGRAM, float(words[0]), words[1], words[2:]):
+            reporting(CRATE / "out" / "proving", build)
+        say(f"the program is proved and built, in {(time.monotonic() - began) / 60:.1f} min")
     except Interrupted:
         say("the build was interrupted; what is proved is kept")
         return building.INTERRUPTED
