@@ -262,35 +262,18 @@ def even(tasks: int, calls: int) -> str:
     return f"pool 1 1 1 {tasks}\n" + "".join(f"begin {task} load 0\n" for task in range(1, tasks + 1)) * calls
 
 
-def threads(program: Program, words: str, read: str) -> int:
-    """How many threads a run starts, which has to end well."""
-    told = program.told(words, read, TELL_THREADS)
-    if told.status or told.err or told.faults.strip("s"):
-        raise SystemExit(f"growths: {words}: status {told.status}, told is {told.err!r}, and of threads {told.faults!r}")
-    return len(told.faults)
-
-
 def threads_tried(program: Program) -> Iterator[tuple[str, bool]]:
-    """What is tried of threads, and whether it went as it should."""
-    tasks, calls = 12, 6
-    race = lambda words: threads(program, f"race {words}", even(tasks, calls))
-    once = race("--times 1")
-    # (the first thread races, too)
-    yield f"each of {tasks} tasks races in a thread of its own ({once} are started)", once in (tasks - 1, tasks)
-    yield "so it does in each race, and where it is traced", race("--times 3") == 3 * once and race("--trace") == once
-    for cut in (1, 2, 4, calls - 1, calls, 65_536):
-        parts, started = -(-calls // cut), race(f"--times 1 --cut {cut}")
-        yield f"by --cut {cut} each makes its {calls} calls in {parts} parts ({started} are started)", started == parts * once
-    most = threads(program, "race --times 1", even(64, 1))
-    yield f"each of 64 tasks races in a thread of its own ({most} are started)", most in (63, 64)
-    two, long = (threads(program, f"race --times 1 --cut {cut}", even(2, 2_002)) for cut in (2_002, 1_001))
-    yield f"by --cut 1001 each of two tasks makes its 2,002 calls in two parts ({long} threads are started)", long == 2 * two > 0
+    """How many threads commands start. (The first thread races, too.)"""
+    tasks, calls, trace = 12, 6, example("calls-in-flight.trace")
+    script, most, long = even(tasks, calls), even(64, 1), even(2, 2_002)
+    rows = [("race --times 1", script, tasks - 1), ("race --times 3", script, 3 * (tasks - 1)), ("race --trace", script, tasks - 1)]
+    rows += [(f"race --times 1 --cut {cut}", script, -(-calls // cut) * (tasks - 1)) for cut in (1, 2, 4, calls - 1, calls, 65_536)]
+    rows += [("race --times 1", most, 63), ("race --times 1 --cut 2002", long, 1), ("race --times 1 --cut 1001", long, 2)]
     for name, several in (("readback", 3), ("shared", 6), ("alloc-instantiate-race", 4), ("counters", 6)):
-        own, on_core, on_pool = (threads(program, f"work {name}{more}", "") for more in ("", " --on core", " --on pool"))
-        yield f"work {name} starts no thread, unless it is told to", own == on_core == 0
-        yield f"work {name} --on pool makes each of {several} calls in a thread of its own ({on_pool} are started)", on_pool == several
-    trace = example("calls-in-flight.trace")
-    yield "a trace starts none", not any(threads(program, words, trace) for words in ("replay", "explain", "draw", "check"))
+        rows += [(f"work {name}", "", 0), (f"work {name} --on core", "", 0), (f"work {name} --on pool", "", several)]
+    for words, read, wanted in [*rows, *((words, trace, 0) for words in ("replay", "explain", "draw", "check"))]:
+        told = program.told(words, read, TELL_THREADS)
+        yield f"{words} starts {wanted} threads: {told._replace(out='')}", (told.status, told.err, told.faults) == (0, "", "s" * wanted)
 
 
 def most_at_once(program: Path, script: str) -> int:

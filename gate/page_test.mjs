@@ -5,13 +5,7 @@ import fs from "node:fs";
 import vm from "node:vm";
 
 const PAGE = new URL("../crates/hp_page/page/", import.meta.url);
-const SOURCES = [
-  ..."run moments search places lanes marks curves picture dom viewer says page".split(" ").map((it) => `${it}.js`),
-];
-const NAMES = [
-  ..."readRun, standingAt, waitAt, lifeAt, findEvents, nextMatch, rangeOf, seriesOf, eventAt, eventWords, outcomeWords, waitWords".split(", "),
-  ..."extendRun, countsAt, waitGroups, groupWords, view, topOf, drawCurves, drawLanes, drawLegend, sayCounts, sayWaits".split(", "),
-];
+const SOURCES = "run moments search places lanes marks curves picture dom viewer says page".split(" ");
 
 // ---- a page without a browser
 
@@ -46,8 +40,9 @@ const sandbox = {
   document: { getElementById: byId, createElement: newElement, addEventListener: () => {} },
   Path2D: class { moveTo() {} lineTo() {} closePath() {} arc() {} rect() {} },
 };
-const source = SOURCES.map((name) => fs.readFileSync(new URL(name, PAGE), "utf8")).join("");
-const page = vm.runInNewContext(`"use strict";(() => {${source}; return { ${NAMES.join(", ")} }; })()`, sandbox);
+vm.createContext(sandbox);
+vm.runInContext(`"use strict";${SOURCES.map((name) => fs.readFileSync(new URL(`${name}.js`, PAGE), "utf8")).join("")}`, sandbox);
+const page = new Proxy({}, { get: (_, name) => vm.runInContext(name, sandbox) });
 const { readRun, standingAt, waitAt, lifeAt, findEvents, nextMatch, rangeOf, seriesOf, eventAt, eventWords, outcomeWords, waitWords } = page;
 const { extendRun, countsAt, waitGroups, groupWords, view, topOf, drawCurves, drawLanes, drawLegend, sayCounts, sayWaits } = page;
 
