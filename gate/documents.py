@@ -7,9 +7,8 @@ usage: gate/documents.py            the names
 A document is a file *.md outside of the crates. Looked at are the words between backquotes and the lines of commands in blocks:
 a path has to be the end of one in the repository; a link has to lead to a file and a heading; `./hugepool` has to have the command and
 its options, `./check` the step; and of a call `hp_frames::Bank::take` or `hp_frames::Bank::{take, free}` each name has to be declared in
-that crate. In a table whose rows begin with crates, the calls of the last column leave the crate out: they have to be declared in one of
-the row's crates. The blocks of docs/MACHINE.md have to stand in the specs of the machine, but for white space; its table of phases in Linux
-has to be that of hp_phases::linux_name, and each crate has to have a row in docs/ARCHITECTURE.md.
+that crate. The blocks of docs/MACHINE.md have to stand in the specs of the machine, but for white space; its table of phases in Linux has
+to be that of hp_phases::linux_name, and each crate has to have a row in docs/ARCHITECTURE.md.
 
 A shown command is a line `    $ COMMAND` of README.md, docs/*.md or examples/README.md; the indented lines below it are its output, with
 the complaints. A line `..` stands for one line or more that the page leaves out. Run are commands that print the same each time, with
@@ -81,21 +80,12 @@ def is_declared(crate: str, name: str) -> bool:
     return bool(re.search(rf"{item}|\bpub use [^;]*\b{name}\b", source_of(crate), re.M))
 
 
-def names_in(call: str) -> list[str]:
-    """The names of `a::b::{c, d}`."""
-    return [it for it in re.findall(r"\w+", call) if not it.isdigit()]
-
-
 def call_faults(text: str) -> Iterator[str]:
-    """The names that their crate doesn't declare: in calls, and in the last column of a table whose rows begin with crates. A row without
-    a crate goes on with those of the row before."""
+    """The names that their crate doesn't declare, of calls as `hp_base::b::{c, d}`."""
     for crate, names in re.findall(r"\b(hp_\w+)((?:::\w+)*::(?:\w+|\{[^}]*\}))", text):
-        yield from (f"{crate} declares no {it}" for it in names_in(names) if crate not in crates_of() or not is_declared(crate, it))
-    crates: list[str] = []
-    for first, last in re.findall(r"^\| ?((?:`\w+`(?:, )?)*) \| [^|]* \| ([^|]*) \|$", text, re.M):
-        crates = [it for it in names_in(first) if it in crates_of()] if first else crates
-        names = names_in(" ".join(re.findall(r"`([^`]+)`", last))) if crates else []
-        yield from (f"{', '.join(crates)}: none declares {it}" for it in names if not any(is_declared(one, it) for one in crates))
+        for it in re.findall(r"[^\W\d]\w*", names):
+            if crate not in crates_of() or not is_declared(crate, it):
+                yield f"{crate} declares no {it}"
 
 
 def command_faults(line: str) -> Iterator[str]:
@@ -155,14 +145,10 @@ def flat(text: str) -> str:
 
 
 def quotation_faults(text: str) -> Iterator[str]:
-    """The blocks that don't stand in the machine's specs. One whose first line ends with a colon has a record's fields, line by line."""
+    """The blocks that don't stand in the machine's specs."""
     files = sorted((TOP / "crates" / "hp_machine" / "specs").glob("*.antt"))
     said = flat("".join(it.read_text(encoding="utf-8") for it in files))
-    for block in re.findall(r"(?:^    .+\n)+", text, re.M):
-        first, *others = block.splitlines()
-        fields = [re.sub(r"^ *(\w+) +", r"pub \1 : ", it) for it in others]
-        pieces = [f"pub record {first.split()[0]}", *fields] if first.endswith(":") else [block]
-        yield from (f"no spec has {it.strip()[:60]}" for it in pieces if flat(it) not in said)
+    yield from (f"no spec has {it.strip()[:60]}" for it in re.findall(r"(?:^    .+\n)+", text, re.M) if flat(it) not in said)
 
 
 def phase_faults(text: str) -> Iterator[str]:

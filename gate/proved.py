@@ -4,7 +4,7 @@
 A row's second cell has groups between semicolons: calls, and behind a colon their clauses. A group without a colon names whole contracts.
 `Bank::{take, free}` are two calls of the crate below whose heading the row stands, `hp_frames::Bank::take` is one of another crate.
 `Bank::{..}` are all public calls of a type, `..` all of the crate. `Bank::invariant` and `Display` are what an impl says besides.
-A clause is one of a call of its group, or a definition that such a clause cites; each call of the group has one. "Its type" is no clause.
+A clause is one of a call of its group, or a definition that such a clause cites; each call of the group has one.
 In parentheses stand definitions, which have to be in specs. What the tables leave out stands below "What isn't listed". Compared are also
 the theorems that no call of the core is named after, and the clauses that docs/POOL.md names.
 """
@@ -25,7 +25,6 @@ POOL_CALL = re.compile(r"\(`([\w:]+)`: ((?:`\w+`(?:,\s)?)+)")
 SPAN = re.compile(r"`([^`]+)`")
 ASIDE = re.compile(r" \(([^()]*)\)")
 NO_CALL = re.compile(r"^Without a call of their name: (.*?)\n\n", re.M | re.S)
-TYPE = re.compile(r"\b(?:its type|their types)\b")
 CLAUSE = re.compile(r"^ *ensures(?: (\w+))? \{", re.M)
 REEXPORT = re.compile(r"^pub use ([^;]+);", re.M)
 DEFINITION = re.compile(r"^ *(?:(?:abbrev|unfoldable) )?pub (?:record |data )?([^\s:{(]+)", re.M)
@@ -165,7 +164,7 @@ def faults(row: Row, named: dict[Function, set[str]]) -> Iterator[str]:
                 named.setdefault(it, set()).update(own)
             if not functions:
                 yield f"there is no {path}"
-            elif not own and not TYPE.search(clauses):
+            elif not own:
                 yield f"no clause is named of {path}"
     yield from (f"the specs have no {it}" for aside in row.asides for it in SPAN.findall(aside) if not is_defined(it))
 
