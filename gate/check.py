@@ -37,14 +37,13 @@ from building import Line  # (of the launcher, which programs makes known)
 
 
 class Script(NamedTuple):
-    """A script: its words, the commands that it needs, whether it needs the proved program, and whether the library for C."""
+    """A script: its words, and what it needs: commands, modules, and what is proved."""
 
     words: str
     needs: tuple[str, ...] = ()
-    proved: bool = False
-    library: bool = False
 
 
+PROVED, LIBRARY = "the proved program (./hugepool build)", "the proved library (./check all)"
 CONFORMANCE = TOP / "conformance"
 # (those that take longest come first)
 GROUPS = {
@@ -52,22 +51,21 @@ GROUPS = {
     "examples": [
         Script("gate/unproved.py", ("cc",)),
         Script("gate/sweep.py", ("cargo",)),
-        Script("gate/examples.py"),
-        Script("gate/showing.py"),
-        Script("gate/states.py"),
-        Script("gate/stepping.py"),
+        *(Script(f"gate/{it}.py") for it in ("examples", "showing", "test_launcher")),
         Script("gate/objects.py", ("jsonschema",)),
-        Script("gate/test_launcher.py"),
         Script("gate/documents.py --shown"),
         Script("bench/fuzz.sh 10 1", ("cargo",)),
     ],
     "linux": [
-        Script("conformance/compare.py", proved=True),
+        Script("conformance/compare.py", (PROVED,)),
         *(Script(f"conformance/{it}.py") for it in ("races", "live/lines", "live/lost", "live/repairs", "audit/pictures")),
         # (each test that there is)
-        *(Script(str(it.relative_to(TOP)), ("cc", "cargo"), it.stem == "test_compare") for it in sorted(CONFORMANCE.glob("**/test_*.py"))),
+        *(
+            Script(str(it.relative_to(TOP)), ("cc", "cargo", *([PROVED] if it.stem == "test_compare" else [])))
+            for it in sorted(CONFORMANCE.glob("**/test_*.py"))
+        ),
     ],
-    "library": [Script("library/header.py", ("cc",)), Script("library/abi.py", ("cc",)), Script("library/check.py", ("cc",), library=True)],
+    "library": [*(Script(f"library/{it}.py", ("cc",)) for it in ("header", "abi")), Script("library/check.py", ("cc", LIBRARY))],
     "documents": [Script(f"gate/{it}") for it in ("documents.py", "page.py", "proved.py", "mutants.py --apply")],
 }
 # the commands that scripts need, each with its Debian package; without the first nothing runs
@@ -110,12 +108,11 @@ class Gate:
     def __init__(self, lacking: list[str]) -> None:
         self.lacking, self.passed, self.failed, self.left_out, self.wrong = lacking, 0, 0, [], []
 
-    def without(self, script: Script) -> str | None:
-        """What a script lacks, if anything."""
-        lacks = [it for it in script.needs if it in self.lacking]
-        if script.library and not is_current(TOP / "crates" / "hp_c" / "out" / "libhp_c.a", "hp_c"):
-            lacks.append("the proved library (./check all)")
-        return ", ".join(lacks + ["the proved program (./hugepool build)"] * (script.proved and not programs.is_proved()))
+    def without(self, script: Script) -> str:
+        """What a script lacks."""
+        archive = TOP / "crates" / "hp_c" / "out" / "libhp_c.a"
+        there = {PROVED: programs.is_proved, LIBRARY: lambda: is_current(archive, "hp_c")}
+        return ", ".join(it for it in script.needs if (not there[it]() if it in there else it in self.lacking))
 
     def run(self, words: list[str], name: str, is_shown: bool = False) -> bool:
         """Runs a command, counts what it says of itself, and returns whether it ended well. One that counts nothing passed or failed; one
