@@ -9,7 +9,7 @@ usage: ./check [--install] [STEP] [..]
                        the mutants: wrong bodies that the prover must refuse; of crates that are named, of those that are due, or of all
   ./check examples     what the program writes of the examples, of every size, at terminals, in threads and on streams that fail;
                        what ./hugepool compiles and proves; documents that show what commands print
-  ./check faults       a failed allocation, read or write at each place where a program makes one, and the threads that it starts
+  ./check faults       a failed allocation at each place where a program makes one, and the threads that it starts
   ./check linux        what Linux kernels answered (conformance/), peers' tests, recordings of races
   ./check library      libhugepool from C, Rust and Python
   ./check documents    the names in documents, pages that scripts write, docs/PROVED.md beside the sources, whether each mutant applies

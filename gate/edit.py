@@ -4,7 +4,7 @@ A mutant is a wrong body, spelled as an edit file with lines `file: PATH` and pa
 stands once in its file, as the pairs before it have left that file. The format is that of the toolchain's own gate. A mutant that must not
 even compile begins with a line `error: CODE`, the compiler's code of the error that it must cause.
 
-The sources are in the formatter's layout, so an item ends with the brace below its first letter.
+The sources are in the formatter's layout, so an item ends with the brace below its first letter, and have no modules within a file.
 """
 from __future__ import annotations
 
@@ -14,16 +14,15 @@ from functools import cache
 from pathlib import Path, PurePosixPath
 from typing import Iterator
 
-FUNCTION = re.compile(r"^( *)(?:pub(?:\([^)]*\))? )?(?:const )?(?:unsafe )?(?:extern \"C\" )?fn (\w+)")
-IMPL = re.compile(r"^( *)(?:unsafe )?impl\b(.*)")
-TRAIT = re.compile(r"^( *)(?:pub(?:\([^)]*\))? )?(?:unsafe )?trait (\w+)")
-MODULE = re.compile(r"^( *)(?:pub(?:\([^)]*\))? )?mod (\w+) \{")
+FUNCTION = re.compile(r"^( *)(?:pub(?:\([^)]*\))? )?(?:const )?(?:extern \"C\" )?fn (\w+)")
+IMPL = re.compile(r"^( *)impl\b(.*)")
+TRAIT = re.compile(r"^( *)(?:pub(?:\([^)]*\))? )?trait (\w+)")
 
 
-def module_of(path: str) -> list[str]:
+def module_of(path: str) -> tuple[str, ...]:
     """The module that a file `src/a/b.rt` holds, as its names."""
-    names = list(PurePosixPath(path).with_suffix("").parts[1:])
-    return [] if names in (["lib"], ["main"]) else names
+    names = PurePosixPath(path).with_suffix("").parts[1:]
+    return () if names in (("lib",), ("main",)) else names
 
 
 def last_name(path: str) -> str:
@@ -35,7 +34,7 @@ def without_parameters(text: str) -> str:
     """What stands behind the parameters `<..>` that a head begins with."""
     depth = 0
     for at, letter in enumerate(text):
-        depth += (letter == "<") - (letter == ">" and text[at - 1:at] != "-")
+        depth += (letter == "<") - (letter == ">")
         if depth == 0 and letter != "<":
             return text[at + 1:] if letter == ">" else text[at:]
     return ""
@@ -89,13 +88,12 @@ class Function:
 
 @dataclass(frozen=True)
 class Block:
-    """An impl, a trait or a module: its lines, counted from 0, and its names."""
+    """An impl or a trait: its lines, counted from 0, and its names."""
 
     first: int
     last: int
     type: str | None = None
     trait: str | None = None
-    module: str | None = None
 
 
 def blocks(lines: list[str]) -> Iterator[Block]:
@@ -106,8 +104,6 @@ def blocks(lines: list[str]) -> Iterator[Block]:
             yield Block(at, end_of(lines, at, made[1]), last_name(kind or trait), last_name(trait) if is_of else None)
         elif made := TRAIT.match(line):
             yield Block(at, end_of(lines, at, made[1]), trait=made[2])
-        elif made := MODULE.match(line):
-            yield Block(at, end_of(lines, at, made[1]), module=made[2])
 
 
 @cache
@@ -116,10 +112,8 @@ def functions(path: str, text: str) -> list[tuple[Function, int, int]]:
     lines, found = text.split("\n"), []
     around = list(blocks(lines))
     for at, made in ((at, made) for at, line in enumerate(lines) if (made := FUNCTION.match(line))):
-        outer = [it for it in around if it.first < at <= it.last]
-        module = (*module_of(path), *(it.module for it in outer if it.module))
-        of = next((it for it in reversed(outer) if not it.module), Block(at, at))
-        found.append((Function(module, of.type, of.trait, made[2]), at, end_of(lines, at, made[1])))
+        of = next((it for it in around if it.first < at <= it.last), Block(at, at))
+        found.append((Function(module_of(path), of.type, of.trait, made[2]), at, end_of(lines, at, made[1])))
     return found
 
 

@@ -81,7 +81,7 @@ def contracts(crate: str) -> tuple[Function, ...]:
             is_public = it.trait is not None or lines[first].lstrip().startswith("pub ")
             found.append(Function(crate, path, it.type, it.trait, it.name, is_public, clauses_in("\n".join(head))))
         for of in edit.blocks(lines):
-            rest = said("\n".join(lines[of.first:of.last])) if not of.module else ()
+            rest = said("\n".join(lines[of.first:of.last]))
             found += [Function(crate, path, of.type, of.trait, name, False, clauses) for name, clauses in rest]
     return tuple(found)
 

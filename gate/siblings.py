@@ -77,17 +77,16 @@ def begin_of(lines: list[str], first: int) -> int:
 
 
 def place_of(function: Function, path: str, text: str) -> Place | None:
-    """The place of a plain function: outside of traits and their impls, and of modules within its file."""
+    """The place of a plain function: outside of traits and their impls."""
     same = [(first, last) for it, first, last in edit.functions(path, text) if it == function]
     if len(same) != 1 or function.is_of_trait:
         return None
     (first, last), lines = same[0], text.split("\n")
-    around = [it for it in edit.blocks(lines) if it.first < first <= it.last]
-    if len(around) > 1 or around and not around[0].type:
+    around = next((it for it in edit.blocks(lines) if it.first < first <= it.last), None)
+    if around and not around.type:
         return None
-    begin = around[0].first if around else 0
-    brace = next((n for n in range(begin, first) if lines[n].endswith("{")), first) if around else 0
-    head = tuple(lines[begin:brace + 1]) if around else ()
+    brace = next(n for n in range(around.first, first) if lines[n].endswith("{")) if around else 0
+    head = tuple(lines[around.first:brace + 1]) if around else ()
     return Place(function, path, begin_of(lines, first), first, last, head)
 
 
