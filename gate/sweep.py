@@ -100,14 +100,10 @@ def is_like_plain(program: Path, words: str, name: str, read: str, plain_words: 
     return ours == theirs and ours.status == 0
 
 
-def last_counts(told: str) -> tuple[int, ...]:
-    """The free frames and the reserve count with which a replay ends."""
-    return tuple(map(int, re.search(r"^free (\d+) resv (\d+)", told, re.MULTILINE).groups()))
-
-
-def made(told: str) -> int:
-    """How many events changed the pool: the outcomes that are neither blocked nor refused."""
-    return sum(line.split()[0] in ("begun", "moved", "ended", "marked", "resized") for line in told.splitlines())
+def ending(told: str) -> tuple[int, ...]:
+    """How many events of a replay changed the pool, being neither blocked nor refused; and its free frames and reserve count at the end."""
+    made = sum(line.split()[0] in ("begun", "moved", "ended", "marked", "resized") for line in told.splitlines())
+    return (made, *map(int, re.search(r"^free (\d+) resv (\d+)", told, re.MULTILINE).groups()))
 
 
 def raced(program: Path, words: str, read: str) -> tuple[int, ...]:
@@ -126,7 +122,6 @@ def sizes(program: Path) -> Iterator[tuple[str, bool]]:
         header, each = crowd(*pool)
         trace, calls = in_turn(header, each), script(header, each)
         yield f"{header}: replayed", is_like_plain(program, "replay", "simulate", trace)
-        yield f"{header}: counted", run(program, "check", trace).out == f"events {trace.count(chr(10)) - 1}\n"
         if pool[3] % 8 in (0, 1) or pool in pools[TASKS :: 9]:
             yield f"{header}: explained", is_like_plain(program, "explain", "explain", trace)
             yield f"{header}: drawn", run(program, "draw", trace).out.endswith("</svg>\n")
@@ -139,9 +134,8 @@ def grown(program: Path) -> Iterator[tuple[str, bool]]:
         trace, begins = alone(header, calls), script(header, [calls])
         told = plain("simulate", "", trace).out
         yield f"{name}, one by one", run(program, "replay", trace) == Ran(0, told, "")
-        wanted = (made(told), *last_counts(told))
         for cut in "", " --cut 1", f" --cut {len(calls) - 1}":
-            yield f"{name}, raced{cut}: {wanted}", raced(program, cut, begins) == wanted
+            yield f"{name}, raced{cut}: {ending(told)}", raced(program, cut, begins) == ending(told)
 
 
 def chances(program: Path) -> Iterator[tuple[str, bool]]:
@@ -151,8 +145,6 @@ def chances(program: Path) -> Iterator[tuple[str, bool]]:
     for it in words:
         found = run(program, f"explore {it} --runs 5", begins)
         yield f"explore {it}", found == plain("explore", f"{it} --runs 5", begins)
-        audited = run(program, f"explore {it} --runs 5 --audit", begins)
-        yield f"explore {it} --audit", audited == found
 
 
 def crowds(program: Path) -> Iterator[tuple[str, bool]]:
@@ -175,15 +167,6 @@ def costs(program: Path) -> Iterator[tuple[str, bool]]:
     yield f"a million events take no more than {MEMORY} bytes: {ran.stderr.decode()}", ran.returncode == 0
 
 
-def many_runs(program: Path) -> Iterator[tuple[str, bool]]:
-    """As many runs as are asked for, audited or not."""
-    begins = script(*crowd(2, 1, 1, 2))
-    for runs in (1, 63, 64, 65, *([600] if is_proved() else [])):
-        wanted = plain("explore", f"--runs {runs}", begins)
-        yield f"{runs} runs", run(program, f"explore --runs {runs}", begins) == wanted
-        yield f"{runs} runs, audited", run(program, f"explore --runs {runs} --audit", begins) == wanted
-
-
 def long_traces(program: Path) -> Iterator[tuple[str, bool]]:
     """Traces of many events, in each command that reads one; and races in many parts."""
     turns = ["begin 1 map 0 0 2", *["step 1"] * 8, "begin 2 store 0 7", *["step 2"] * 3, "kill 3", "begin 1 unmap 0", *["step 1"] * 4]
@@ -202,17 +185,11 @@ def long_traces(program: Path) -> Iterator[tuple[str, bool]]:
 
 def call(dice: random.Random) -> str:
     """A call of any kind but an exit. Those that visit the page tables of all tasks are seldom, so that a race fits a trace."""
-    file, first, length = dice.randrange(3), dice.randrange(12), dice.randint(1, 4)
-    address = dice.randrange(40)
-    kind = dice.choices(("map", "mapn", "alloc", "allock", "punch", "trunc", "unmap", "load", "store"), (2, 2, 1, 1, 1, 1, 4, 10, 10))[0]
-    match kind:
-        case "trunc":
-            return f"trunc {file} {dice.randrange(12)}"
-        case "unmap" | "load":
-            return f"{kind} {address}"
-        case "store":
-            return f"store {address} {dice.randrange(1000)}"
-    return f"{kind} {file} {first} {length}"
+    file, first, address = dice.randrange(3), dice.randrange(12), dice.randrange(40)
+    pages = f"{file} {first} {dice.randint(1, 4)}"
+    often = {f"load {address}": 10, f"store {address} {first}": 10, f"unmap {address}": 4, f"map {pages}": 2, f"mapn {pages}": 2}
+    seldom = dict.fromkeys((f"alloc {pages}", f"allock {pages}", f"punch {pages}", f"trunc {file} {first}"), 1)
+    return dice.choices([*often, *seldom], [*often.values(), *seldom.values()])[0]
 
 
 def long_script(calls: int) -> str:
@@ -233,7 +210,7 @@ def soaked(program: Path) -> Iterator[tuple[str, bool]]:
 def tries(program: Path, pool: ThreadPoolExecutor) -> Iterator[tuple[str, bool]]:
     """What is tried, and whether it went as it should."""
     slow = (crowds, grown, long_traces, costs)
-    parts = (*(slow if is_proved() else ()), sizes, chances, many_runs, soaked)
+    parts = (*(slow if is_proved() else ()), sizes, chances, soaked)
     for found in pool.map(lambda part: [*part(program)], parts):
         yield from found
     print("" if is_proved() else "left out: the largest sizes, long traces and costs: they need the proved program\n", end="")
