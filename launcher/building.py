@@ -12,7 +12,7 @@ import sys
 import time
 from contextlib import contextmanager
 from pathlib import Path
-from typing import Callable, Iterator, TextIO
+from typing import Callable, Iterable, Iterator, TextIO
 
 TOP = Path(__file__).resolve().parent.parent
 INTERRUPTED, FAILED = 130, 126
@@ -92,7 +92,7 @@ def say(text: str) -> None:
 
 
 @contextmanager
-def marked(program: Path, moment: float, sources: str, words: list[str]) -> Iterator[None]:
+def marked(program: Path, moment: float, sources: str, words: Iterable[str]) -> Iterator[None]:
     """Marks the program as built from these sources where the block ends well, and keeps other calls that build it waiting. What is written
     meanwhile is newer than the mark. Where another call has built it since that moment, it begins anew with the launcher, which finds out
     whether that is current."""

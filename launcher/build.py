@@ -1,23 +1,27 @@
 #!/usr/bin/env python3
-"""Proves and builds the program, with the libraries that it stands on side by side, and runs it: what `./hugepool build` does.
+"""Builds a program and runs it: without proof, or proved, with the libraries that it stands on side by side.
 
-usage: prove.py MOMENT SOURCES WORD ..
-       prove.py libraries CRATE ..        proves and builds the libraries that these crates stand on
-       prove.py one FOLDER JOBS           proves and builds one library, over libraries that are built
+usage: build.py unproved CRATE MOMENT SOURCES [WORD ..]    what ./hugepool does where nothing was proved yet
+       build.py proved CRATE MOMENT SOURCES WORD ..        what ./hugepool build does
+       build.py libraries CRATE ..                         proves and builds the libraries that these crates stand on
+       build.py one FOLDER JOBS                            proves and builds one library, over libraries that are built
+
+`rt try` compiles a program without proof, with checks at run time, runs it once and removes it. While the program runs, it lies in a
+folder below TMPDIR. A hard link to it, taken then, keeps it as out/unproved. The name of that file is not documented.
 
 What is proved, and how it is kept, is the toolchain's own doing; `rt run` afterwards finds each library built, and proves and builds the
-program.
-
-The toolchain's module is the one way to prove libraries side by side, and this file the one place that loads it: `rt lib` locks all crates below its
-own, and all stand on one; `rt all check` gives each crate one job. Meanwhile this holds the locks.
+program. The toolchain's module is the one way to prove libraries side by side, and this file the one place that loads it: `rt lib` locks
+all crates below its own, and all stand on one; `rt all check` gives each crate one job. Meanwhile this holds the locks.
 """
 from __future__ import annotations
 
+import contextlib
 import os
 import shutil
+import subprocess
 import sys
+import tempfile
 import time
-from contextlib import contextmanager
 from importlib.machinery import SourceFileLoader
 from importlib.util import module_from_spec, spec_from_loader
 from pathlib import Path
@@ -25,11 +29,14 @@ from types import ModuleType
 from typing import Callable, Iterator
 
 import building
-from building import BuildFailed, Interrupted, SIGNALS, TOP, say
+from building import BuildFailed, Interrupted, Line, SIGNALS, TOP, say
 from proving import Library, NotProved, Proving, Run, begin, is_from_nothing, with_chains
 
-CRATE = TOP / "crates" / "hugepool"
-PROGRAM = CRATE / "out" / "hugepool"
+# seconds that each took to compile without proof on an idle machine (2026-11-28)
+SECONDS = {"replay": 25, "hugepool": 80}
+# what the program reads while it is looked for: a trace that it works on for a moment
+TRACE = b"pool 1 1 1 1\n" + 20_000 * b"step 1\n"
+PAUSE = 0.02
 # what each crate's first proof takes: processor seconds, and MiB of its largest process. A build notes it in the second file, which
 # goes before the first.
 WEIGHTS = Path(__file__).with_name("weights.txt"), TOP / "out" / "weights.txt"
@@ -38,22 +45,62 @@ UNKNOWN, SHARE = 60.0, 0.85
 MIB = 1024 * 1024
 
 
-class Unusable(Exception):
-    """The toolchain's module isn't there, or isn't what this code knows."""
+def follow(ran: subprocess.Popen, room: Path, to: Path, crate: str) -> bool:
+    """Waits until `rt try` ends, shows how far it is, and returns whether the program that it ran was kept."""
+    began, line, usual, is_taken = time.monotonic(), Line(), SECONDS.get(crate, 100), False
+    while ran.poll() is None:
+        SIGNALS.look()
+        for file in () if is_taken else room.glob("*/*/program"):
+            with contextlib.suppress(OSError):
+                os.link(file, to)
+                is_taken = True
+        line.show(lambda: f"compiling without proof, {time.monotonic() - began:.0f} s so far; an idle machine takes {usual} s")
+        time.sleep(PAUSE)
+    line.clear()
+    return is_taken
+
+
+def compile_unproved(crate: str, program: Path, room: Path) -> None:
+    """Has `rt try` compile the program and run it on the trace, and keeps it. Besides the compiled program `rt try` has an interpreter; one
+    step of that is enough here."""
+    # (a program that only replays reads no words)
+    words = ["rt", "try", "--steps", "1", "--", *([] if crate == "replay" else ["replay"])]
+    (room / "trace").write_bytes(TRACE)
+    how = {"cwd": TOP / "crates" / crate, "env": {**os.environ, "TMPDIR": str(room)}, "stdout": subprocess.DEVNULL}
+    with open(room / "trace", "rb") as trace, open(room / "log", "w+", encoding="utf-8", errors="replace") as log:
+        ran = subprocess.Popen(words, stdin=trace, stderr=log, **how)
+        try:
+            is_taken = follow(ran, room, room / "new", crate)
+        finally:
+            ran.terminate()
+            ran.wait()
+        log.seek(0)
+        said = log.read()
+    # (a signal may have ended it before this process)
+    SIGNALS.look()
+    if ran.returncode:
+        raise BuildFailed(f"{said}hugepool: the sources were refused")
+    if not is_taken:
+        raise BuildFailed("hugepool: the program was compiled, but can't be kept; ./hugepool build proves and builds it")
+    (room / "new").replace(program)
+
+
+@contextlib.contextmanager
+def usable() -> Iterator[None]:
+    """A use of the toolchain's module, which may not be what this code knows."""
+    try:
+        yield
+    except (Exception, SystemExit) as error:
+        raise BuildFailed(f"hugepool: the toolchain's module can't be used: {error}") from error
 
 
 def load() -> ModuleType:
     """The module behind the command `rt`. Loading it does nothing else."""
-    path = shutil.which("rt")
-    if path is None:
-        raise Unusable("'rt' is not on the PATH")
-    loader = SourceFileLoader("rt_command", os.path.realpath(path))
+    loader = SourceFileLoader("rt_command", os.path.realpath(shutil.which("rt") or "rt"))
     module = module_from_spec(spec_from_loader("rt_command", loader))
     sys.dont_write_bytecode = True
-    try:
+    with usable():
         loader.exec_module(module)
-    except (Exception, SystemExit) as error:
-        raise Unusable(str(error)) from error
     return module
 
 
@@ -81,7 +128,7 @@ def note_weights(proving: Proving) -> None:
     WEIGHTS[1].write_text("".join(lines), encoding="utf-8")
 
 
-@contextmanager
+@contextlib.contextmanager
 def locked(rt: ModuleType, crates: list) -> Iterator[None]:
     """Keeps other commands of the toolchain out of the crates, as the toolchain itself does."""
     with SIGNALS.raising():
@@ -98,7 +145,7 @@ def prove_libraries(names: list[str], logs: Path, program: str = "") -> Proving:
     shutil.rmtree(logs, ignore_errors=True)
     logs.mkdir(parents=True)
     rt, crates, known, libraries = load(), {}, weights(), []
-    try:
+    with usable():
         for name in names:
             top = rt.rtlib.Crate(str(TOP / "crates" / name), str(TOP), {})
             crates |= {it.name: it for it in [*top.below(), *([top] if name == program else [])] if it.name not in crates}
@@ -107,8 +154,6 @@ def prove_libraries(names: list[str], logs: Path, program: str = "") -> Proving:
             libraries.append(Library(it.name, it.folder, frozenset(low.name for low in it.below()), seconds, memory or it.planned()))
         built = {it.name for it in crates.values() if it.name != program and it.is_built()}
         proving = Proving(with_chains(libraries), built, rt.processors(), SHARE * rt.free(), logs)
-    except (Exception, SystemExit) as error:
-        raise Unusable(str(error)) from error
     last = [it for it in proving.left if it.name == program]
     proving.left = [it for it in proving.left if it.name != program]
     with locked(rt, list(crates.values())):
@@ -117,9 +162,9 @@ def prove_libraries(names: list[str], logs: Path, program: str = "") -> Proving:
     return proving
 
 
-def build(logs: Path) -> None:
+def prove_program(crate: str, logs: Path) -> None:
     """Proves and builds the libraries side by side, and has the toolchain prove the program over them, and build it."""
-    proving = prove_libraries(["hugepool"], logs, "hugepool")
+    proving = prove_libraries([crate], logs, crate)
     program = proving.left.pop()
     jobs, log = proving.jobs_that_fit(program, proving.processors), logs / f"{program.name}.log"
     proving.follow(Run(program, jobs, begin(["rt", "run", "--jobs", str(jobs), "--", "--help"], program.folder, log), log))
@@ -134,8 +179,23 @@ def reporting(logs: Path, prove: Callable, *given) -> None:
     except NotProved as name:
         said = (logs / f"{name}.log").read_text(encoding="utf-8", errors="replace")
         raise BuildFailed(f"{said}hugepool: the build failed: {name} is not proved") from name
-    except Unusable as why:
-        raise BuildFailed(f"hugepool: the toolchain's module can't be used: {why}") from why
+
+
+def build(kind: str, crate: str, moment: str, sources: str, *words: str) -> None:
+    """Builds a program, and runs it, unless the words ask for the build alone."""
+    out, began = TOP / "crates" / crate / "out", time.monotonic()
+    if kind == "unproved":
+        program = out / "unproved"
+        with building.marked(program, float(moment), sources, words):
+            with tempfile.TemporaryDirectory(prefix="unproved-", dir=out) as name:
+                compile_unproved(crate, program, Path(name))
+        os.execv(TOP / "hugepool", [str(TOP / "hugepool"), *words])
+    program = out / crate
+    with building.marked(program, float(moment), sources, words):
+        reporting(out / "proving", prove_program, crate)
+    say(f"the program is proved and built, in {(time.monotonic() - began) / 60:.1f} min")
+    if words != ("build",):
+        os.execv(program, [crate, *words])
 
 
 def main(words: list[str]) -> int:
@@ -145,19 +205,14 @@ def main(words: list[str]) -> int:
     try:
         if words[0] == "libraries":
             reporting(TOP / "out" / "proving", prove_libraries, words[1:])
-            return 0
-        began = time.monotonic()
-        with building.marked(PROGRAM, float(words[0]), words[1], words[2:]):
-            reporting(CRATE / "out" / "proving", build)
-        say(f"the program is proved and built, in {(time.monotonic() - began) / 60:.1f} min")
+        else:
+            build(*words)
     except Interrupted:
         say("the build was interrupted; what is proved is kept")
         return building.INTERRUPTED
     except BuildFailed as why:
         print(why, file=sys.stderr)
         return building.FAILED
-    if words[2:] != ["build"]:
-        os.execv(PROGRAM, ["hugepool", *words[2:]])
     return 0
 
 
