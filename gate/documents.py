@@ -167,22 +167,14 @@ class Shown(NamedTuple):
 
 def shown_in(page: str, text: str) -> Iterator[Shown]:
     """The commands of a page, each with the lines below it."""
-    found: Shown | None = None
-    for line in [*text.splitlines(), ""]:
-        if line.startswith("    $ ") or not line.startswith("    "):
-            if found:
-                yield found
-            found = Shown(page, line[6:], []) if line.startswith("    $ ") else None
-        elif found:
-            found.lines.append(line[4:])
+    for command, lines in re.findall(r"^    \$ (.*)\n((?:    (?!\$ ).*\n)*)", text, re.M):
+        yield Shown(page, command, [it[4:] for it in lines.splitlines()])
 
 
 def agree(printed: list[str], wanted: list[str]) -> bool:
     """Whether lines are those of a page, where `..` is one line or more."""
-    if LEFT_OUT_LINES not in wanted:
-        return printed == wanted
-    at = wanted.index(LEFT_OUT_LINES)
-    return printed[:at] == wanted[:at] and any(agree(printed[k:], wanted[at + 1:]) for k in range(at + 1, len(printed) + 1))
+    pattern = "".join(r"(?:.*\n)+" if it == LEFT_OUT_LINES else re.escape(f"{it}\n") for it in wanted)
+    return bool(re.fullmatch(pattern, "".join(f"{it}\n" for it in printed)))
 
 
 def printed_by(command: str) -> list[str] | None:
