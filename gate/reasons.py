@@ -10,24 +10,9 @@ HEADER = "pool 1 1 1 1"
 MOST, MOST_WORD = 2**32 - 1, 2**64 - 1
 # what there is of a pool, and the least and the most of it
 SIZES = [("frames", 1, 4096), ("files", 1, 16), ("slots", 1, 64), ("tasks", 1, 64), ("quota pages", 0, 65_536)]
-# each kind of line, and what it is called
-LINES = {
-    "step 1": "a step",
-    "deny 1": "a deny",
-    "kill 1": "a kill",
-    "resize 1": "a resize",
-    "begin 1 map 0 0 1": "a map",
-    "begin 1 mapn 0 0 1": "a mapn",
-    "begin 1 alloc 0 0 1": "an alloc",
-    "begin 1 allock 0 0 1": "an allock",
-    "begin 1 punch 0 0 1": "a punch",
-    "begin 1 trunc 0 1": "a trunc",
-    "begin 1 store 0 1": "a store",
-    "begin 1 load 0": "a load",
-    "begin 1 unmap 0": "an unmap",
-    "begin 1 exit": "an exit",
-}
-
+# each kind of line
+CALLS = ("map 0 0 1", "mapn 0 0 1", "alloc 0 0 1", "allock 0 0 1", "punch 0 0 1", "trunc 0 1", "store 0 1", "load 0", "unmap 0", "exit")
+LINES = ("step 1", "deny 1", "kill 1", "resize 1", *(f"begin 1 {it}" for it in CALLS))
 # other lines behind a header, and other headers, and what is to be said of each
 SAID = [
     ("step 1\r", "the line ends with a carriage return"),
@@ -60,9 +45,15 @@ def words_said(count: int) -> str:
     return f"the line has {count} word{'' if count == 1 else 's'}"
 
 
-def wrong_fields(line: str, what: str) -> Iterator[tuple[str, str]]:
+def called(line: str) -> str:
+    """What a kind of line is called."""
+    word = line.removeprefix("begin 1 ").split()[0]
+    return f"{'an' if word[0] in 'aeu' else 'a'} {word}"
+
+
+def wrong_fields(line: str) -> Iterator[tuple[str, str]]:
     """The line with one field wrong, or one too many or too few, and what is to be said of it."""
-    words = line.split()
+    words, what = line.split(), called(line)
     for at, _ in (it for it in enumerate(words) if it[1].isdigit()):
         most = MOST_WORD if what == "a store" and at == 4 else MOST
         said = {"x": "is not a number", "-1": "is not a number", "01": "begins with a zero", str(most + 1): f"is above {most}"}
@@ -106,12 +97,12 @@ def long_lines(program: Path) -> Iterator[tuple[str, bool]]:
 def tries(program: Path) -> Iterator[tuple[str, bool]]:
     """What is tried, and whether it went as it should."""
     wrong_lines, headers = [*SAID], [*wrong_headers(), *SAID_OF_HEADERS]
-    for line, what in LINES.items():
+    for line in LINES:
         yield f"{line!r} is right", run(program, "check", f"{HEADER}\n{line}\n") == Ran(0, "events 1\n", "")
-        wrong_lines += wrong_fields(line, what)
+        wrong_lines += wrong_fields(line)
         if not line.startswith("begin"):
             script = run(program, "schedule", f"{HEADER}\n{line}\n")
-            yield f"{what} stands in no script", script == said_of(2, line, "every event of a script must be a begin")
+            yield f"{called(line)} stands in no script", script == said_of(2, line, "every event of a script must be a begin")
     for number, front, several in ((2, f"{HEADER}\n", wrong_lines), (1, "", headers)):
         for wrong, why in several:
             said = run(program, "check", f"{front}{wrong}\n")
