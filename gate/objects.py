@@ -1,18 +1,20 @@
 #!/usr/bin/env python3
 """Compares what commands write with --json with docs/lines.schema.json. (What the objects say is proved.)
 
-Each line has to be an object of one kind of the schema, spelled as Python's writer does it. The scripts and traces are those of examples/;
-each kind of the schema has to occur, but for those that no run of the program writes.
+Each line has to be an object of one kind of the schema, spelled as Python's writer does it. What is run are rows of examples/commands/, and
+scripts and traces of examples/; each kind of the schema has to occur, but for those that no run of the program writes.
 """
 from __future__ import annotations
 
 import json
+import re
 import sys
 from pathlib import Path
 from typing import Iterator
 
 from jsonschema import Draft202012Validator
 
+from examples import LARGE, rows_below
 from programs import TOP, report, run, tested
 
 FOLDER = TOP / "examples"
@@ -23,33 +25,23 @@ KINDS = {it: Draft202012Validator({**SCHEMA, "oneOf": [{"$ref": f"#/$defs/{it}"}
 # no race of a right program and no workload of a right core ends so
 NEVER = {"bad_work"}
 SCRIPT = ("explore --runs 3", "explore --summary --runs 600 --kill 20", "schedule", "find --rest", "race --times 2", "race --trace")
-PICTURE = """picture 4 0 4 0 3
-free 0
-free 1
-hand 5
-file 4
-region 0 0 2
-region 0 3 4
-page 0 1 5
-translation 1 0 4 6
-translation 1 2 0 0
-end
-"""
-RESIZED = "pool 4 1 4 1 3\nresize 5\nbegin 1 map 0 0 4\nstep 1\ndeny 1\nkill 1\nbegin 1 exit\n"
+# words that write no lines, or read a file
+OTHERWISE = re.compile(r"--help|\{file\}")
 
 
-def inputs() -> Iterator[tuple[str, str]]:
+def inputs() -> Iterator[tuple[str, bytes]]:
     """Commands, and what they read."""
+    commands = SCHEMA["$defs"]["heading"]["properties"]["command"]["enum"]
+    for _, row in rows_below(FOLDER / "commands"):
+        is_plain = not (row.breaks or row.room or row.leaves or row.stderr_is_full or row.stderr or row.stderr_starts)
+        for words in row.words if is_plain and len(row.read()) < LARGE else []:
+            if words.split()[0] in commands and not OTHERWISE.search(words):
+                yield words.replace(" --json", ""), row.read()
     for file in sorted(FOLDER.glob("*.script")):
-        text = file.read_text(encoding="utf-8")
-        yield from ((words, text) for words in SCRIPT)
-    small = (FOLDER / "truncate-against-fault.script").read_text(encoding="utf-8")
-    yield from ((words, small) for words in ("explore --every", "find --every --rest", "explore --every --denials 1"))
+        yield from ((words, file.read_bytes()) for words in SCRIPT)
     for file in sorted(FOLDER.glob("*.trace")):
         if not file.with_suffix(".status").exists():
-            yield from ((words, file.read_text(encoding="utf-8")) for words in ("check", "explain"))
-    yield from (("minimize --anywhere --final free>4", RESIZED), ("audit", PICTURE), ("audit", "picture 0 0 0 0\nend\n"))
-    yield from ((words, "") for words in ("work readback", "work counters --on pool", "work shared --trace"))
+            yield from ((words, file.read_bytes()) for words in ("check", "explain"))
 
 
 def spelled(found: object) -> str:
