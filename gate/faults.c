@@ -24,24 +24,19 @@ extern void *__libc_memalign(size_t, size_t);
 static make_thread *thread_of_the_system;
 static atomic_long growths;
 static long refused;
-static int told = -1;
+static int told;
 static _Thread_local int is_inside;
-
-static long number(const char *name) {
-    const char *text = getenv(name);
-    return text == NULL ? -1 : strtol(text, NULL, 10);
-}
 
 /* The program begins after this: what its loader took isn't counted. */
 __attribute__((constructor)) static void begin(void) {
     thread_of_the_system = (make_thread *)dlsym(RTLD_NEXT, "pthread_create");
-    told = (int)number("FAULT_TOLD");
-    refused = number("FAULT_GROWTH");
+    told = atoi(getenv("FAULT_TOLD"));
+    refused = atol(getenv("FAULT_GROWTH"));
     atomic_store(&growths, 0);
 }
 
 static void tell(char letter) {
-    if (told >= 0 && write(told, &letter, 1) != 1) {
+    if (write(told, &letter, 1) != 1) {
         abort();
     }
 }
