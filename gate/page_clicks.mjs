@@ -97,7 +97,6 @@ async function tryCrowd() {
   await browser.run(`document.querySelector("#waits details").open = true`);
   await expect("each wait is there", `document.querySelectorAll("#waits ul li").length === 62`);
   await expect("calls are in sight where the waits are open", isSeen);
-  await expect("since when", `document.querySelector("#waits ul li").textContent === "task 2, since line 4"`);
   await expect("the legend is in sight", `(({ top, bottom }) => top > 0 && bottom < innerHeight)(document.getElementById("legend").getBoundingClientRect())`);
   await expect("one name for one curve", `!/\\bbare\\b|without a page/.test(document.body.innerText) && document.body.innerText.includes("no page")`);
 }
