@@ -115,8 +115,7 @@ def siblings_of(crate: Path, function: Function, mutants: list[Mutant]) -> list[
 
 def is_plain(mutant: Mutant) -> bool:
     """Whether a mutant changes the body of one function alone."""
-    is_in_one_file = len({it.path for it in mutant.pairs}) == 1
-    return mutant.is_in_bodies and not mutant.error and len(mutant.functions) == 1 and is_in_one_file
+    return mutant.is_in_bodies and not mutant.error and len(mutant.functions) == 1
 
 
 def proofs_of(crate: Path, function: Function) -> Path | None:
