@@ -20,10 +20,10 @@ from building import Line, SIGNALS
 ONE = Path(__file__).with_name("build.py")
 # the seconds by which an urgent library's chain may be shorter than the longest
 SLACK = 15.0
-# what another job adds to the memory of the first, since it is a copy that shares most of it, and how much faster it makes the first
-MORE_MEMORY, MORE_SPEED = 0.5, 0.3
-# of a proof that takes longer than is known, the share that is taken to be left; and the share that has to be done before it is believed
-LEAST_LEFT, BELIEVED = 0.15, 0.2
+# what another job adds to the memory of the first, since it is a copy that shares most of it
+MORE_MEMORY = 0.5
+# of a proof that takes longer than is known, and doesn't say how far it is, the share that is taken to be done
+MOST_DONE = 0.85
 # so many seconds of proofs that went as is known are put beside those of this build
 EXPECTED = 120.0
 FUNCTIONS = re.compile(r"^so far: (\d+) of (\d+) functions", re.M)
@@ -59,9 +59,9 @@ class Run:
         said = FUNCTIONS.findall(self.log.read_text(encoding="utf-8", errors="replace"))
         return int(said[-1][0]) / max(int(said[-1][1]), 1) if said else 0.0
 
-    def work(self) -> float:
-        """The seconds of one processor that it has had."""
-        return (time.monotonic() - self.began) * speed(self.jobs)
+    def done(self, pace: float) -> float:
+        """The seconds that are done, of what is known: as the prover says, or by the clock."""
+        return self.library.seconds * max(self.share(), min((time.monotonic() - self.began) / self.library.seconds / pace, MOST_DONE))
 
     def memory(self) -> float:
         return self.library.memory * (1 + MORE_MEMORY * (self.jobs - 1))
@@ -69,16 +69,6 @@ class Run:
 
 class NotProved(Exception):
     """The library of this name is not proved."""
-
-
-def speed(jobs: int) -> float:
-    return 1 + MORE_SPEED * (jobs - 1)
-
-
-def work_left(known: float, work: float, share: float) -> float:
-    """The work that is left of a proof that has had so much, of what is known to be needed; the share that is done corrects that."""
-    whole = max(known, min(work / share, 3 * known)) if share > BELIEVED and work > known / 2 else known
-    return max(whole - work, LEAST_LEFT * whole)
 
 
 def with_chains(libraries: Iterable[Library]) -> list[Library]:
@@ -95,30 +85,6 @@ def jobs_of(ready: list[Library], active: list[Library], left: list[Library], pr
     is_urgent = lambda it: it.chain >= longest - SLACK
     urgent = max(1, sum(map(is_urgent, [*active, *ready])))
     return {it.name: max(1, processors // urgent) if is_urgent(it) else 1 for it in ready}
-
-
-def simulated(left: list[Library], running: list[tuple[Library, int, float]], built: set[str], processors: int, pace: float) -> float:
-    """The seconds until all are built, where those that run have these jobs and this work left, and the others need what is known."""
-    left, built, seconds = list(left), set(built), 0.0
-    works = {library.name: [library, jobs, work] for library, jobs, work in running}
-    while left or works:
-        ready = [it for it in left if it.below <= built]
-        for it, jobs in zip(ready, jobs_of(ready, [work[0] for work in works.values()], left, processors).values()):
-            if len(works) < processors:
-                left.remove(it)
-                works[it.name] = [it, jobs, it.seconds * pace]
-        if not works:
-            return seconds
-        # (with more jobs than processors all are slower)
-        slowed = min(1.0, processors / sum(work[1] for work in works.values()))
-        step = min(work / (speed(jobs) * slowed) for _, jobs, work in works.values())
-        seconds += step
-        for work in works.values():
-            work[2] -= step * speed(work[1]) * slowed
-        ended = {name for name, work in works.items() if work[2] <= 1e-6}
-        works = {name: work for name, work in works.items() if name not in ended}
-        built |= ended
-    return seconds
 
 
 def begin(words: list[str], folder: str, log: Path) -> subprocess.Popen:
@@ -149,8 +115,7 @@ class Proving:
         self.runs: dict[int, Run] = {}
         # what each proof took: processor seconds, and the bytes of its largest process
         self.took: dict[str, tuple[float, int]] = {}
-        # the work of the proofs that have ended, and what was known of them
-        self.work, self.known, self.line = EXPECTED, EXPECTED, Line()
+        self.began, self.line = time.monotonic(), Line()
 
     def begin_ready(self) -> None:
         """Begins what there are processors and memory for, the longest chain first. Where nothing runs, one does in any case."""
@@ -184,7 +149,6 @@ class Proving:
                 SIGNALS.look()
                 raise NotProved(run.library.name)
             self.built.add(run.library.name)
-            self.work, self.known = self.work + run.work(), self.known + run.library.seconds
             self.took[run.library.name] = used.ru_utime + used.ru_stime, used.ru_maxrss * 1024
 
     def prove(self) -> None:
@@ -208,13 +172,16 @@ class Proving:
             run.process.wait()
 
     def seconds_left(self) -> float:
-        """The estimate: what is known of each proof, by the pace of those that have ended here, in the order in which they will run."""
-        pace = self.work / self.known
-        running = [(run.library, run.jobs, work_left(run.library.seconds * pace, run.work(), run.share())) for run in self.runs.values()]
-        names = {it.name for it in self.left} | {run.library.name for run in self.runs.values()}
-        # (the program waits beside the others until the libraries are proved)
-        waiting = [it for it in self.libraries if it.name not in self.built and it.name not in names]
-        return simulated([*self.left, *waiting], running, self.built, self.processors, pace)
+        """The estimate: what is left at the rate so far; or the longest chain, if that takes longer. A library of a chain has several jobs
+        beside others, and takes about as long by the clock as it takes one processor."""
+        ended = [it for it in self.libraries if it.name in self.took]
+        pace = (EXPECTED + sum(self.took[it.name][0] for it in ended)) / (EXPECTED + sum(it.seconds for it in ended))
+        parts = {run.library.name: run.done(pace) for run in self.runs.values()}
+        waiting = [it for it in self.libraries if it.name not in self.built]
+        left = sum(it.seconds - parts.get(it.name, 0.0) for it in waiting)
+        done = sum(it.seconds for it in ended) + sum(parts.values())
+        chain = max(it.chain - parts.get(it.name, 0.0) for it in waiting)
+        return max(left * (time.monotonic() - self.began) / max(done, 1.0), chain * pace)
 
     def told(self) -> str:
         """How many crates are proved, how many functions of the others, and how many minutes are left."""
