@@ -149,10 +149,7 @@ class Story(NamedTuple):
     also: tuple[str, ...] = ()
     brought: tuple[str, ...] = ()
     begins: str = ""
-
-    @property
-    def words(self) -> str:
-        return ""
+    words: str = ""
 
     def fault(self, _: Told, told: Told) -> str | None:
         """What is wrong with a story that was told, if anything is."""

@@ -5,15 +5,14 @@ What it writes is compared with what the plain programs of bench/plain write, wh
 follow from the tables: a call that waits for nobody makes the same steps whatever the size. So a program that gives up, or goes
 astray, at some size that no example has is noticed. Needs cargo, which builds the plain programs.
 
-At last 8 tasks race a long script of calls of all kinds in threads, whole and cut: each race has to be closed. (A script has no kills:
-those of `crates/hp_pool_tests` are made through the library. That a trace of a race is that race is proved.)
+At last 8 tasks race a long script of calls of all kinds in threads, whole and cut: each race has to be closed. (Longer ones, with kills,
+are those of `crates/hp_pool_tests`. That a trace of a race is that race is proved.)
 
 The program that is compiled without proof takes up to 60 times as long: it is tried at fewer sizes.
 """
 from __future__ import annotations
 
 import os
-import random
 import re
 import subprocess
 import sys
@@ -30,8 +29,6 @@ FRAMES, FILES, SLOTS, TASKS, LIMIT, PAGES = 4_096, 16, 64, 64, 4_096, 16_384
 SEEDS = [0, 1, 2**32, 2**63 - 1, 2**63, 2**63 + 12_345, 2**64 - 1]
 # chances, of a thousand, at both ends and in pairs
 CHANCES = [(0, 0), (1, 0), (0, 1), (999, 999), (1000, 0), (0, 1000), (500, 501), (501, 500), (1000, 1000)]
-# the pool of a long race, and its tasks
-SOAKED, RACERS = "pool 24 3 8 8", 8
 # steps that are more than any call of a page makes
 ENOUGH = 20
 # the bytes in which a trace of any length is replayed
@@ -43,11 +40,12 @@ def text(lines: Iterable[str]) -> str:
 
 
 def calls_of(task: int, file: int, index: int) -> list[str]:
-    """What a task does with a page of a file: it maps, stores, loads and unmaps it, allocates another, and punches both."""
+    """What a task does with a page of a file: it maps, stores, loads and unmaps it, allocates two others, and punches all."""
     most = LIMIT - 1
     return [
-        *(f"map {file} {index} 1", "store 0 7", "load 0", f"alloc {file} {most - index} 1", "unmap 0", f"mapn {file} {index} 1"),
-        *("store 0 8", f"punch {file} {index} 1", f"punch {file} {most - index} 1", "load 0", f"trunc {file} {task}"),
+        *(f"map {file} {index} 1", "store 0 7", "load 0", f"alloc {file} {most - index} 1", "unmap 0", f"mapn {file} {index} 1", "store 0 8"),
+        *(f"allock {file} {2_000 + index} 1", f"punch {file} {index} 1", f"punch {file} {2_000 + index} 1", f"punch {file} {most - index} 1"),
+        *("load 0", f"trunc {file} {task}"),
     ]
 
 
@@ -183,26 +181,11 @@ def long_traces(program: Path) -> Iterator[tuple[str, bool]]:
         yield f"4,000 loads that find no mapping, cut behind {cut} of them", raced(program, f" --cut {cut}", loads) == (8_000, 1, 0)
 
 
-def call(dice: random.Random) -> str:
-    """A call of any kind but an exit. Those that visit the page tables of all tasks are seldom, so that a race fits a trace."""
-    file, first, address = dice.randrange(3), dice.randrange(12), dice.randrange(40)
-    pages = f"{file} {first} {dice.randint(1, 4)}"
-    often = {f"load {address}": 10, f"store {address} {first}": 10, f"unmap {address}": 4, f"map {pages}": 2, f"mapn {pages}": 2}
-    seldom = dict.fromkeys((f"alloc {pages}", f"allock {pages}", f"punch {pages}", f"trunc {file} {first}"), 1)
-    return dice.choices([*often, *seldom], [*often.values(), *seldom.values()])[0]
-
-
-def long_script(calls: int) -> str:
-    """A script in which the last call of each task is an exit."""
-    dice = random.Random(17)
-    begins = [f"begin {dice.randint(1, RACERS)} {call(dice)}" for _ in range(calls - RACERS)]
-    return text([SOAKED, *begins, *(f"begin {task} exit" for task in range(1, RACERS + 1))])
-
-
 def soaked(program: Path) -> Iterator[tuple[str, bool]]:
     """A long race in threads, of calls of all kinds."""
+    header, each = crowd(24, 3, 8, 8)
     # (beside other processes each wait of a thread takes milliseconds, so a longer one takes minutes)
-    asked = long_script(20_000 if is_proved() else 2_000)
+    asked = script(header, [[*calls * (200 if is_proved() else 20), "exit"] for calls in each])
     for cut in ("", " --cut 1000"):
         yield f"a long race{cut} is closed", bool(raced(program, cut, asked))
 

@@ -85,22 +85,12 @@ def compile_unproved(crate: str, program: Path, room: Path) -> None:
     (room / "new").replace(program)
 
 
-@contextlib.contextmanager
-def usable() -> Iterator[None]:
-    """A use of the toolchain's module, which may not be what this code knows."""
-    try:
-        yield
-    except (Exception, SystemExit) as error:
-        raise BuildFailed(f"hugepool: the toolchain's module can't be used: {error}") from error
-
-
 def load() -> ModuleType:
     """The module behind the command `rt`. Loading it does nothing else."""
     loader = SourceFileLoader("rt_command", os.path.realpath(shutil.which("rt") or "rt"))
     module = module_from_spec(spec_from_loader("rt_command", loader))
     sys.dont_write_bytecode = True
-    with usable():
-        loader.exec_module(module)
+    loader.exec_module(module)
     return module
 
 
@@ -145,15 +135,14 @@ def prove_libraries(names: list[str], logs: Path, program: str = "") -> Proving:
     shutil.rmtree(logs, ignore_errors=True)
     logs.mkdir(parents=True)
     rt, crates, known, libraries = load(), {}, weights(), []
-    with usable():
-        for name in names:
-            top = rt.rtlib.Crate(str(TOP / "crates" / name), str(TOP), {})
-            crates |= {it.name: it for it in [*top.below(), *([top] if name == program else [])] if it.name not in crates}
-        for it in crates.values():
-            seconds, memory = known.get(it.name, (UNKNOWN, 0.0))
-            libraries.append(Library(it.name, it.folder, frozenset(low.name for low in it.below()), seconds, memory or it.planned()))
-        built = {it.name for it in crates.values() if it.name != program and it.is_built()}
-        proving = Proving(with_chains(libraries), built, rt.processors(), SHARE * rt.free(), logs)
+    for name in names:
+        top = rt.rtlib.Crate(str(TOP / "crates" / name), str(TOP), {})
+        crates |= {it.name: it for it in [*top.below(), *([top] if name == program else [])] if it.name not in crates}
+    for it in crates.values():
+        seconds, memory = known.get(it.name, (UNKNOWN, 0.0))
+        libraries.append(Library(it.name, it.folder, frozenset(low.name for low in it.below()), seconds, memory or it.planned()))
+    built = {it.name for it in crates.values() if it.name != program and it.is_built()}
+    proving = Proving(with_chains(libraries), built, rt.processors(), SHARE * rt.free(), logs)
     last = [it for it in proving.left if it.name == program]
     proving.left = [it for it in proving.left if it.name != program]
     with locked(rt, list(crates.values())):
