@@ -19,7 +19,8 @@ sys.path.append(str(TOP / "launcher"))
 WORDS = {
     "trace": (
         *("replay", "replay --json", "replay --picture", "explain", "explain --compact --linux --tasks 1 --lines 2..3"),
-        *("explain --json --lines 2..3", "draw", "draw --html", "check", "check --json", "format", "minimize --final resv=0 --anywhere", "step"),
+        *("explain --json --lines 2..3", "draw", "draw --html", "check", "check --json", "format", "step"),
+        "minimize --final resv=0 --anywhere",
     ),
     "script": (
         *("explore --runs 2", "explore --summary --runs 2", "schedule", "race --times 2", "race --trace"),

@@ -152,7 +152,7 @@ def steps(folder: Path) -> Iterator[tuple[str, bool]]:
     yield "each has the events so far", [it.read_text() if it.exists() else "" for it in (one, two)] == [LONG, SHORT]
     two.write_text(SHORT.strip() + "  # the lock\r\nstep 1 *x\n")
     told = stepped("", "load two.trace\nstep 1\n")
-    yield "a wrong line of a file is told, and nothing is loaded", told[0] == "two.trace: line 3 is not an event" and "pool first" in told[1]
+    yield "of a wrong line of a file nothing is loaded", told[0] == "two.trace: line 3 is not an event" and "pool first" in told[1]
     two.write_text(SHORT.strip())
     told = stepped("two.trace", "step 1\nsave\n")
     yield "a file's lines come first, and save writes it", told == [POOL.strip(), "begun", "moved size", "saved: two.trace"]
@@ -164,7 +164,8 @@ def steps(folder: Path) -> Iterator[tuple[str, bool]]:
     told = typed("", LONG + "begin 2 trunc 0 0\npool 1 1 1 1\nundo\npool 1 1 1 1\npool 2 1 1 1\nquit\n")
     wanted = ["> ", f"{POOL}free 4 resv 0 calls 0> ", "begun\nfree 4 resv 0 calls 1> ", "moved size\nfree 4 resv 0 calls 1> "]
     wanted += ["begun\nfree 4 resv 0 calls 2, 2 waits for 1> ", f"{UNSAVED}free 4 resv 0 calls 2, 2 waits for 1> "]
-    wanted += ["undone: begin 2 trunc 0 0\nfree 4 resv 0 calls 1> ", f"{UNSAVED}free 4 resv 0 calls 1> ", "pool 2 1 1 1\nfree 2 resv 0 calls 0> "]
+    wanted += ["undone: begin 2 trunc 0 0\nfree 4 resv 0 calls 1> ", f"{UNSAVED}free 4 resv 0 calls 1> "]
+    wanted += ["pool 2 1 1 1\nfree 2 resv 0 calls 0> "]
     yield "lines are asked for by the counts and the waits, and events aren't dropped at once", told == "".join(wanted)
     wanted = [f"{POOL}begun\nmoved size\nfree 4 resv 0 calls 1> ", "moved tail\nfree 4 resv 0 calls 1> "]
     yield "behind a file's lines the next is asked for", typed("one.trace", "step 1\nquit\n") == "".join(wanted)

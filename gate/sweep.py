@@ -41,11 +41,10 @@ def text(lines: Iterable[str]) -> str:
 
 def calls_of(task: int, file: int, index: int) -> list[str]:
     """What a task does with a page of a file: it maps, stores, loads and unmaps it, allocates two others, and punches all."""
-    most = LIMIT - 1
+    page, next_page, last = (f"{file} {it} 1" for it in (index, 2_000 + index, LIMIT - 1 - index))
     return [
-        *(f"map {file} {index} 1", "store 0 7", "load 0", f"alloc {file} {most - index} 1", "unmap 0", f"mapn {file} {index} 1", "store 0 8"),
-        *(f"allock {file} {2_000 + index} 1", f"punch {file} {index} 1", f"punch {file} {2_000 + index} 1", f"punch {file} {most - index} 1"),
-        *("load 0", f"trunc {file} {task}"),
+        *(f"map {page}", "store 0 7", "load 0", f"alloc {last}", "unmap 0", f"mapn {page}", "store 0 8", f"allock {next_page}"),
+        *(f"punch {page}", f"punch {next_page}", f"punch {last}", "load 0", f"trunc {file} {task}"),
     ]
 
 
