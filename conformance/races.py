@@ -15,7 +15,7 @@ import re
 import signal
 import sys
 from pathlib import Path
-from typing import NamedTuple
+from typing import Iterator, NamedTuple
 
 from compare import Script, scripts
 
@@ -55,16 +55,20 @@ def is_loss(script: Script) -> bool:
     return all(it.resv <= it.free for it in raced) and end.free == frames and end.resv <= 0
 
 
-def beside(script: Script) -> int | None:
-    """How many pages may have been placed in a script while truncations of their file ran, if its recorder told so."""
-    found = [re.search(r" = rest beside (\d+) \|", line) for line in script.lines if line.startswith("race ")]
-    return sum(int(it[1]) for it in found if it) if all(found) else None
+def allowed(script: Script) -> Iterator[tuple[Rest, int | None]]:
+    """The numbers at each rest of a script, and how many reservations Linux may have lost in its races so far, if the recorder told so."""
+    lost: int | None = 0
+    for line in script.lines:
+        found = re.search(r" = rest beside (\d+) \|", line)
+        if line.startswith("race "):
+            lost = lost + int(found[1]) if found and lost is not None else None
+        if it := TOLD.match(line):
+            yield Rest(*map(int, it.groups())), lost
 
 
 def is_accounted(script: Script) -> bool:
-    """Whether no more reservations were lost than by Linux's rules N and U: one for a page that was placed while a truncation ran."""
-    placed = beside(script)
-    return placed is None or -rests(script)[-1].resv <= placed
+    """Whether at no rest more reservations are lost than Linux's rules allow by the races before it (record/race.c, touch_beside)."""
+    return all(lost is None or -rest.resv <= lost for rest, lost in allowed(script))
 
 
 def has_truncations(script: Script) -> bool:

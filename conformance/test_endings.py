@@ -43,11 +43,15 @@ ENDS = (
     ("no frame in a short quota", "pool 9 1 4 2 1", ("start 2 alloc 0 0 2 = started", "wait 2 = noframe"), RIGHT, None),
     ("two frames of one index", AMPLE, (STARTED, "wait 2 = done | 3 0 | 1 1 | 0 1 DISAGREE"), RIGHT, "answer done"),
 )  # fmt: skip
-# calls, and whether a truncation runs beside another one
+# calls, and whether a truncation runs beside a touch
 BESIDE = (
     (("start 1 trunc 0 0", "start 2 store 0 5", "wait 1", "wait 2"), True),
     (("hold f 1 store 0 5", "begin 2 trunc 0 0", "wait 1"), True),
     (("start 2 trunc 0 0", "begin 1 load 0", "wait 2"), True),
+    (("hold f 1 alloc 0 0 1", "start 2 trunc 0 0", "begin 3 load 0", "wait 2", "wait 1"), True),
+    (("hold f 1 alloc 0 0 1", "start 2 trunc 0 0", "wait 2", "wait 1"), False),
+    (("start 2 trunc 0 0", "begin 1 punch 0 0 1", "wait 2"), False),
+    (("start 2 map 0 0 2", "begin 1 trunc 0 0", "wait 2", "begin 2 load 0"), False),
     (("start 1 trunc 0 0", "wait 1", "start 2 store 0 5", "wait 2"), False),
     (("hold f 1 store 0 5", "start 2 load 0", "wait 2", "wait 1", "begin 1 trunc 0 0"), False),
 )
@@ -104,7 +108,7 @@ def faults_of_ends() -> Iterator[tuple[str, object]]:
         yield f"{what}: it is new", found is None or found.known is None
     for calls, is_beside in BESIDE:
         script = Script("a", AMPLE, list(calls))
-        yield f"{calls}", endings.is_truncated_beside(script) == is_beside
+        yield f"{calls}", endings.is_truncated_beside_a_touch(script) == is_beside
         for way, resv in (("lost", -1), ("leaked", 1)):
             found = endings.wrong(script, Script("a", AMPLE, []), End(4, 4, resv), known_issues())
             explained = is_beside and way == "lost"

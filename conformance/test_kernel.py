@@ -136,7 +136,13 @@ RACES = (
     ("a race with truncations leaks a count", "mst", 1, "", "new"),
     ("a race loses a count where a truncation ran beside a touch", "mst", -1, " beside 1", RACE),
     ("a race loses a count where no truncation ran beside a touch", "mst", -1, " beside 0", "new"),
-    ("a race loses more than were placed beside truncations", "mst", -3, " beside 2", "new"),
+    ("a race loses more than its touches may beside truncations", "mst", -3, " beside 2", "new"),
+)
+# the account of two races and the reserve count behind each, the last at the end, too; and how that ends
+TWO_RACES = (
+    ("each race loses what it may", (1, -1), (1, -2), RACE),
+    ("a race loses more than it may, and the next could lose it", (0, -1), (2, -1), "new"),
+    ("a race loses what the one before could", (2, 0), (0, -2), RACE),
 )
 KNOWN_TEXTS = {key: "" for key in ("title", "script", "kernel", "machine", "cause")} | {"versions": [], "functions": [], "links": []}
 BAD_FILES = (
@@ -183,9 +189,18 @@ def ending(case: Case, without: tuple[str, ...] = ()) -> str:
 
 def race_ending(kinds: str, reserved: int, beside: str = "") -> str:
     lines = (f"race 1 9 4 {kinds} = rest{beside} | 4 0 | 0 0 | 0 0", f"begin 1 trunc 0 0 = done | 4 {reserved} | 0 0 | 0 0")
+    return ending_of(lines)
+
+
+def ending_of(lines: tuple[str, ...]) -> str:
     text = "\n".join(["# x", "script r", "pool 4 1 4 2", *lines, "end x\n"])
     wrong = wrong_counts(parsed(text)[1], known_issues())
     return str(wrong[0].known or "new") if wrong else "agrees"
+
+
+def two_races_ending(first: tuple[int, int], second: tuple[int, int]) -> str:
+    told = [f"race 1 9 4 mst = rest beside {beside} | 4 {reserved} | 0 0 | 0 0" for beside, reserved in (first, second)]
+    return ending_of((*told, f"begin 1 trunc 0 0 = done | 4 {second[1]} | 0 0 | 0 0"))
 
 
 class Leaking(kernels.Kernel):
@@ -232,6 +247,8 @@ def faults_of_known() -> Iterator[tuple[str, object]]:
     yield "noquota, with its file left out", ending(quota, ("noquota-is-noframe",)) == "new"
     for what, kinds, reserved, beside, ends in RACES:
         yield what, race_ending(kinds, reserved, beside) == ends or race_ending(kinds, reserved, beside)
+    for what, first, second, ends in TWO_RACES:
+        yield what, two_races_ending(first, second) == ends or two_races_ending(first, second)
     yield from faults_of_rules()
     yield from faults_of_translation()
     yield from faults_of_spoiled()

@@ -256,6 +256,15 @@ def faults_of_files() -> Iterator[tuple[object, object]]:
         yield f"{words} with no reader", ran.stderr.read() == b"" and ran.wait() != 1
 
 
+def faults_of_accounts(room: Path) -> Iterator[tuple[object, object]]:
+    """That a race counts as lost by Linux's rules what made-up calls may lose, and no more (test_race.c)."""
+    words = [os.environ.get("CC", "cc"), "-std=gnu11", "-D_GNU_SOURCE", "-O2", "-Wall", "-Wextra", "-Wshadow", "-o", room / "race", FOLDER / "test_race.c"]
+    built = subprocess.run(words, capture_output=True, text=True, check=False)
+    yield "test_race.c compiles with no warning", built.stderr == "" or built.stderr
+    ran = subprocess.run([room / "race"], capture_output=True, text=True, check=False)
+    yield "what a race counts as lost", (ran.returncode, ran.stdout) == (0, "race: 19 passed, 0 failed\n") or ran.stdout
+
+
 def outcome(program: str, file: Path) -> tuple[int, str, str]:
     """The status of a program that reads a file, and what it writes."""
     ran = subprocess.run([sys.executable, FOLDER / program, file], capture_output=True, text=True, check=False)
@@ -273,7 +282,7 @@ def main() -> int:
         tried = [("it compiles with no warning", recorder.is_built and not recorder.warnings or recorder.warnings)]
         if recorder.is_built:
             tried += [*faults_of_reading(recorder), *faults_of_making(recorder), *faults_of_kinds()]
-            tried += [*faults_of_races(), *faults_of_counts(), *faults_of_files()]
+            tried += [*faults_of_races(), *faults_of_counts(), *faults_of_files(), *faults_of_accounts(Path(name))]
     wrong = [(what, found) for what, found in tried if found is not True]
     print("".join(f"  {what!r}: {found}\n" for what, found in wrong), end="")
     print(f"recorder: {len(tried) - len(wrong)} passed, {len(wrong)} failed")

@@ -19,6 +19,8 @@ NEVER, AMPLE = r"(?!deny |[^=]* x)[^=]* = errno|.*DISAGREE", r"(?!deny )[^=]* = 
 EXPLAINED = re.compile(r"hold \S+ deny |(?:start|hold) .* x[a-z]")
 # the calls that may place or reserve pages: of which file, from which index on, and how many
 PLACING = re.compile(r"(?:mapn?|allock?) (\d+) (\d+) (\d+)")
+# the calls that touch a page
+TOUCHES = {"load", "store", "xload"}
 
 
 class End(NamedTuple):
@@ -100,19 +102,24 @@ def way_of_answers(script: Script) -> tuple[str, str] | None:
     return line and (f"answer {line.partition(' = ')[2]}", f"no call may be answered so: {line}")
 
 
-def is_truncated_beside(script: Script) -> bool:
-    """Whether a truncation ran beside other calls, or others beside it."""
-    at_work: dict[str, bool] = {}
+def kind_of(words: list[str]) -> str | None:
+    """Whether a line's call is a truncation, or a touch. (All others hold the inode's lock, so none runs beside a truncation.)"""
+    return "truncation" if "trunc" in words else "touch" if TOUCHES & set(words) else None
+
+
+def is_truncated_beside_a_touch(script: Script) -> bool:
+    """Whether a truncation and a touch overlapped."""
+    at_work: dict[str, str | None] = {}
     for line in script.lines:
         words = line.split(" = ")[0].split()
         if words[0] == "wait":
             at_work.pop(words[1], None)
-        elif words[0] in ("start", "hold"):
-            at_work[task_of(line)] = "trunc" in words
-            if len(at_work) > 1 and any(at_work.values()):
-                return True
-        elif at_work and ("trunc" in words or any(at_work.values())):
+            continue
+        kinds = {*at_work.values(), kind_of(words)}
+        if {"truncation", "touch"} <= kinds:
             return True
+        if words[0] in ("start", "hold"):
+            at_work[task_of(line)] = kind_of(words)
     return False
 
 
@@ -121,7 +128,7 @@ def wrong(script: Script, answered: Script, end: End, known: list[Known]) -> Wro
     found = way_at_end(end) or way_at_rest(answered) or way_of_quota(answered, end) or way_of_answers(answered)
     if found is None:
         return None
-    is_known = found[0] in ("lost", "below") and is_truncated_beside(script)
+    is_known = found[0] in ("lost", "below") and is_truncated_beside_a_touch(script)
     return Wrong(script, *found, race_rule(known, "t") if is_known else None)
 
 

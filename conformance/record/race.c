@@ -2,7 +2,9 @@
 #include <inttypes.h>
 #include <stdio.h>
 #include <string.h>
+#include <sys/resource.h>
 
+#include "fail.h"
 #include "task.h"
 
 enum {
@@ -114,39 +116,83 @@ static void tell_counts(struct desk *desk, const uint64_t *counts, uint64_t besi
         to += snprintf(to, end - to, " %s %" PRIu64, known_answers[k], counts[k]);
 }
 
-/* How many pages a call may place, and of which file: a touch one, an allocation those of its range. */
-static uint64_t places(const struct desk *desk, unsigned *file)
-{
-    const struct mapping *mapping;
+/* Where a touch goes: which page of which file. */
+struct place {
+    unsigned file;
+    uint64_t index;
+};
 
-    switch (desk->call.operation) {
-    case OP_LOAD:
-    case OP_STORE:
-        mapping = mapping_of(desk, desk->call.numbers[0]);
-        *file = mapping ? mapping->file : 0;
-        return mapping != NULL;
-    case OP_ALLOC:
-    case OP_ALLOCK:
-        *file = desk->call.numbers[0];
-        return desk->call.numbers[2];
-    default:
-        return 0;
-    }
+static uint64_t least(uint64_t one, uint64_t other)
+{
+    return one < other ? one : other;
 }
 
-/* Makes the call on the desk. Returns how many pages it may have placed while a truncation of their file ran: Linux can lose a
- * reservation for each of these, and for no other. */
-static uint64_t make_beside(struct desk *desk, struct files files)
+/* The place that the call on the desk touches, a page behind the race's span as the span's last: each truncation of a race takes off
+ * both. False where the call is no touch, or of nothing that is mapped. */
+static bool is_touch(const struct desk *desk, uint64_t span, struct place *place)
 {
-    unsigned file = 0;
-    uint64_t pages = places(desk, &file), ended = files.board->ended[file];
-    bool is_truncation = desk->call.operation == OP_TRUNC;
+    uint64_t page = desk->call.numbers[0];
+    const struct mapping *mapping;
 
-    file = is_truncation ? desk->call.numbers[0] : file;
-    files.board->begun[file] += is_truncation;
+    if (desk->call.operation != OP_LOAD && desk->call.operation != OP_STORE)
+        return false;
+    mapping = mapping_of(desk, page);
+    if (mapping)
+        *place = (struct place){mapping->file, least(mapping->first + (page - mapping->base), span - 1)};
+    return mapping != NULL;
+}
+
+/* The page faults of this task that were served so far. */
+static uint64_t served_faults(void)
+{
+    struct rusage told;
+
+    if (getrusage(RUSAGE_THREAD, &told))
+        fail_errno("counting page faults");
+    return told.ru_minflt + told.ru_majflt;
+}
+
+/* Makes a touch, and returns how many reservations Linux may lose by it. A truncation takes an index out of the reserve map once. That
+ * loses one at two moments of a fault that places the page of this index: between its region_chg and its region_add, and after that. */
+static uint64_t touch_beside(struct desk *desk, struct files files, struct place place)
+{
+    uint64_t faults = served_faults(), ended = files.board->ended[place.file][place.index], begun;
+
     make_call(desk, files);
-    files.board->ended[file] += is_truncation;
-    return files.board->begun[file] != ended ? pages : 0;
+    begun = files.board->begun[place.file][place.index];
+    faults = served_faults() - faults;
+    return least(begun - ended, 2 * faults);
+}
+
+/* Counts a truncation for each page of a race that it takes off its file. */
+static void count_truncation(_Atomic uint64_t *pages, const struct desk *desk, uint64_t span)
+{
+    for (uint64_t index = desk->call.numbers[1]; index < span; index++)
+        pages[index]++;
+}
+
+static void truncate_beside(struct desk *desk, struct files files, uint64_t span)
+{
+    uint64_t file = desk->call.numbers[0];
+
+    count_truncation(files.board->begun[file], desk, span);
+    make_call(desk, files);
+    count_truncation(files.board->ended[file], desk, span);
+}
+
+/* Makes the call on the desk, and returns how many reservations Linux may lose by it. It loses some by touches alone: an allocation, a
+ * punch and a map hold the inode's lock, as a truncation does, so none runs beside one. */
+static uint64_t make_beside(struct desk *desk, struct files files, uint64_t span)
+{
+    struct place place;
+
+    if (is_touch(desk, span, &place))
+        return touch_beside(desk, files, place);
+    if (desk->call.operation == OP_TRUNC)
+        truncate_beside(desk, files, span);
+    else
+        make_call(desk, files);
+    return 0;
 }
 
 /* Makes one call of a race, and counts its answer. Where there is none to make, or the answer is odd, it tells so instead. */
@@ -161,7 +207,7 @@ static bool race_once(struct desk *desk, struct files files, const struct call *
     }
     operation = draw_operation(desk, asked->numbers[RACE_KINDS], seed);
     desk->call = draw_call(desk, operation, files.count, asked->numbers[RACE_SPAN], seed);
-    *beside += make_beside(desk, files);
+    *beside += make_beside(desk, files, asked->numbers[RACE_SPAN]);
     if (count_answer(desk->answer, counts))
         return true;
     snprintf(odd, sizeof odd, "%.60s", desk->answer);

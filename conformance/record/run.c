@@ -327,7 +327,7 @@ static void ask_all(struct pool *pool, const struct line *line)
     }
 }
 
-/* Tells what a task made in a race, and returns how many pages it may have placed while truncations ran. */
+/* Tells what a task made in a race, and returns how many reservations Linux may lose by it. */
 static uint64_t tell_race_of(struct task *task, unsigned number, const struct line *line)
 {
     uint64_t beside;

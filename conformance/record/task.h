@@ -53,9 +53,9 @@ struct task {
     struct desk *desk;
 };
 
-/* How many truncations of each file have begun and ended: all tasks of a script write there. */
+/* How many truncations that take a page off its file have begun and ended, by file and index: the tasks of a race write there. */
 struct board {
-    _Atomic uint64_t begun[MOST_FILES], ended[MOST_FILES];
+    _Atomic uint64_t begun[MOST_FILES][FILE_LIMIT], ended[MOST_FILES][FILE_LIMIT];
 };
 
 /* What a task has of the pool. */
