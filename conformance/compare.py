@@ -59,6 +59,8 @@ class Script:
     name: str
     header: str
     lines: list[str]
+    # the line behind them, with the kernel's numbers where no task and no file is left
+    end: str = ""
 
 
 class Told(NamedTuple):
@@ -173,7 +175,7 @@ def scripts(path: Path) -> Iterator[Script]:
         elif line.startswith("pool "):
             header = line
         elif line.split(" ")[0] == "end":
-            yield Script(name, header, lines)
+            yield Script(name, header, lines, line)
             name = None
         else:
             lines.append(line)

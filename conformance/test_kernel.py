@@ -25,7 +25,7 @@ import packages
 import races
 import tally
 from compare import Script
-from kernel import kernels, machine, minimize, report, reproduce, shrinking, suites, testing
+from kernel import endings, kernels, machine, minimize, report, reproduce, shrinking, suites, testing
 from kernel.differences import Comparison, Result
 from kernel.known import Known, explains, faults, known_issues, release, translated
 from kernel.minimize import Minimizer, minimized
@@ -144,6 +144,18 @@ TWO_RACES = (
     ("a race loses more than it may, and the next could lose it", (0, -1), (2, -1), "new"),
     ("a race loses what the one before could", (2, 0), (0, -2), RACE),
 )
+# a script's last calls, what the kernel has where nothing is left of it, and how that ends
+RESERVED = "begin 1 map 0 0 1 = mapped 0 | 4 1 | 1 0 | 0 0"
+ENDS = (
+    ("all is given back", (RESERVED,), "total 4 free 4 resv 0 surp 0", "agrees"),
+    ("a reservation stays", (RESERVED,), "total 4 free 4 resv 1 surp 0", "new"),
+    ("a reservation is lost", (RESERVED,), "total 4 free 4 resv -1 surp 0", "new"),
+    ("a page isn't free", (RESERVED,), "total 4 free 3 resv 0 surp 0", "new"),
+    ("a surplus leaves the pool", (RESERVED, "resize 0 = resized 1 | 1 1 | 1 0 | 0 0 | total 1 surplus 1"), "total 1 free 0 resv 0 surp 0", "agrees"),
+    ("a truncation is beside a touch", ("start 1 trunc 0 0 = started", "start 2 load 0 = started"), "total 4 free 4 resv -1 surp 0", RACE),
+    ("and one isn't free", ("start 1 trunc 0 0 = started", "start 2 load 0 = started"), "total 4 free 3 resv -1 surp 0", "new"),
+    ("a truncation is beside an allocation", ("start 1 trunc 0 0 = started", "start 2 alloc 0 0 1 = started"), "total 4 free 4 resv -1 surp 0", "new"),
+)
 KNOWN_TEXTS = {key: "" for key in ("title", "script", "kernel", "machine", "cause")} | {"versions": [], "functions": [], "links": []}
 BAD_FILES = (
     ({}, "there is no rule"),
@@ -201,6 +213,30 @@ def ending_of(lines: tuple[str, ...]) -> str:
 def two_races_ending(first: tuple[int, int], second: tuple[int, int]) -> str:
     told = [f"race 1 9 4 mst = rest beside {beside} | 4 {reserved} | 0 0 | 0 0" for beside, reserved in (first, second)]
     return ending_of((*told, f"begin 1 trunc 0 0 = done | 4 {second[1]} | 0 0 | 0 0"))
+
+
+def judged_at_end(lines: tuple[str, ...], end: str, has_races: bool = False) -> Tested:
+    """A script of two tasks with these numbers at its end."""
+    answered = [Script("r", "pool 4 1 4 2", list(lines), f"end {end}")]
+    return testing.judged(Comparison(PROGRAM, NEW_KERNEL, known_issues()), testing.Work("made", answered, has_races), answered)
+
+
+def faults_of_ends() -> Iterator[tuple[str, object]]:
+    """What is wrong where nothing is left of a script, of calls one by one and of races; and that each recorded script tells it."""
+    for what, lines, end, ends in ENDS:
+        found = judged_at_end(lines, end).wrong
+        yield what, (str(found[0].known or "new") if found else "agrees") == ends or found
+    told = "\n".join(report.wrong_text(judged_at_end(*ENDS[1][1:3]).wrong[0]))
+    said = ("expected: all 4 pages free, and none reserved", "found:    4 free, 1 reserved", "behind:   call 2: its tasks end, and its files go")
+    yield "what is said of it", all(it in told for it in said) or told
+    differs = judged_at_end((RESERVED.replace("4 1", "4 2"),), "total 4 free 4 resv 1 surp 0")
+    yield "one that differs before is new once", (differs.new, differs.wrong) == (1, []) or differs
+    raced = ("race 1 9 4 mst = rest beside 1 | 4 0 | 0 0 | 0 0", "begin 1 trunc 0 0 = done | 4 -1 | 0 0 | 0 0")
+    for resv, ends in ((-1, RACE), (0, "new"), (-2, "new")):
+        found = judged_at_end(raced, f"total 4 free 4 resv {resv} surp 0", True).wrong
+        yield f"behind races {resv}", [str(it.known or "new") for it in found] == [ends] or found
+    recorded = [it for path in (TOP / "conformance").glob("calls-*.txt") for it in compare.scripts(path)]
+    yield "each recorded script tells its end", len(recorded) == 295 and all(map(endings.end_of, recorded))
 
 
 class Leaking(kernels.Kernel):
@@ -644,7 +680,7 @@ def decided() -> list[str]:
 
 
 def main() -> int:
-    parts = (faults_of_known, faults_of_files, faults_of_reading, faults_of_report, faults_of_commands, faults_of_recorded)
+    parts = (faults_of_known, faults_of_ends, faults_of_files, faults_of_reading, faults_of_report, faults_of_commands, faults_of_recorded)
     parts += (faults_of_document, faults_of_lacks, faults_of_reproducing, faults_of_saying, faults_of_interrupts, faults_of_races)
     parts += (faults_of_covering, faults_of_whole, faults_of_basis, faults_of_again, faults_of_boots, faults_of_minimizing)
     return tally.ended("kernel", parts)

@@ -7,7 +7,7 @@ from dataclasses import dataclass, replace
 from typing import NamedTuple
 
 import races
-from compare import Script
+from compare import Script, read
 from kernel.known import Known, race_rule
 from kernel.problem import Problem
 from kernel.shrinking import task_of
@@ -54,6 +54,15 @@ def ends_of(text: str, count: int) -> list[End]:
     if len(found) != count:
         raise Problem(f"{count} scripts were asked, and {len(found)} ended with their counts")
     return found
+
+
+def end_of(script: Script) -> End | None:
+    """The numbers at the end of a recorded script, if they were told. (Pages of a surplus leave the pool where they become free.)"""
+    found = END.match(script.end)
+    if found is None:
+        return None
+    total, free, resv = map(int, found.groups()[:3])
+    return End(total - (read(script.lines[-1]).surplus if script.lines else 0), free, resv)
 
 
 def way_at_end(end: End) -> tuple[str, str] | None:

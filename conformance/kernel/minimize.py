@@ -12,7 +12,7 @@ from typing import Callable, Iterator, Union
 
 from compare import Script
 from kernel.differences import Comparison, Difference
-from kernel.endings import Wrong, ends_of, wrongs
+from kernel.endings import Wrong, end_of, ends_of, way_at_end, wrongs
 from kernel.kernels import Kernel, say
 from kernel.known import Known
 from kernel.machine import Machine
@@ -104,10 +104,17 @@ class Minimizer:
         alone = [Script(it.name, it.header, answered[first].lines) for it, first in zip(some, firsts) if not is_by_counts(it)]
         results = iter(compared(Comparison(self.machine.program, version, self.known), alone))
         found: list[Shown | None] = []
-        for it, first, end in zip(some, firsts, firsts[1:]):
-            is_alone = not is_by_counts(it)
-            found.append(next(results).difference if is_alone else wrongs(it, answered[first:end], ends[first:end], self.known))
+        for it, first, behind in zip(some, firsts, firsts[1:]):
+            if is_by_counts(it):
+                found.append(wrongs(it, answered[first:behind], ends[first:behind], self.known))
+            else:
+                found.append(next(results).difference or self.wrong_at_end(it, answered[first]))
         return found
+
+    def wrong_at_end(self, script: Script, answered: Script) -> Wrong | None:
+        """What is wrong at the end alone of a script whose calls all agree."""
+        end = end_of(answered)
+        return wrongs(script, [answered], [end], self.known) if end and way_at_end(end) else None
 
     def alike(self, number: int, candidates: list[Script], way: Way | str) -> list[Shown]:
         """Those candidates that differ in this way."""

@@ -15,6 +15,7 @@ from compare import Script, scripts
 from kernel.audit.behind import Audited, Behind
 from kernel.console import Ended
 from kernel.differences import Comparison, Result
+from kernel.endings import end_of, is_truncated_beside_a_touch
 from kernel.kernels import PAGE, Kernel, Look, Recording, say
 from kernel.known import Known, race_rule
 from kernel.machine import Machine
@@ -26,6 +27,8 @@ from kernel.suites import call_of, in_order, race_calls, shortened, text_of
 AT_A_TIME = 2
 # a kernel that can't force the calls of so many scripts can't force any
 ENOUGH_IN_VAIN = 5
+# what a script that has no call left does
+AT_ITS_END = "its tasks end, and its files go"
 # while a kernel answers, so long is compared before its console is looked at again, in seconds
 AT_ONCE = 0.5
 
@@ -154,7 +157,7 @@ def stopped(asked: list[Script], text: str, ended: Ended) -> Stopped:
     if "\npool " not in rest:
         return Stopped(ended, Script(script.name, script.header, []), "its pool is opened")
     answered = sum(" = " in line for line in rest.splitlines(keepends=True) if line.endswith("\n") and not line.startswith("#"))
-    call = script.lines[answered] if answered < len(script.lines) else "its tasks end, and its files go"
+    call = script.lines[answered] if answered < len(script.lines) else AT_ITS_END
     return Stopped(ended, Script(script.name, script.header, script.lines[: answered + 1]), call)
 
 
@@ -283,10 +286,11 @@ def judged(comparison: Comparison, work: Work, answered: list[Script], audits: l
         return found
     if done is not None:
         found.results = done
-        return found
-    results = compared(comparison, answered)
-    asserted = {it.name: it for it in work.asserted}
-    found.results = [it.with_broken(broken_by(asserted.get(it.name), script)) for it, script in zip(results, answered)]
+    else:
+        asserted = {it.name: it for it in work.asserted}
+        found.results = [it.with_broken(broken_by(asserted.get(it.name), script)) for it, script in zip(compared(comparison, answered), answered)]
+    ends = [wrong_end(script, comparison.known) for it, script in zip(found.results, answered) if not it.is_new]
+    found.wrong = [it for it in ends if it]
     return found
 
 
@@ -316,8 +320,22 @@ def wrong_counts(answered: list[Script], known: list[Known]) -> list[WrongCount]
 
 
 def oddities_of(script: Script) -> tuple[str, ...]:
-    """What a script has against its kernel beside wrong counts, if its calls are forced."""
-    return tuple(forced.oddities(script)) if forced.has_force(script) else ()
+    """What a script has against its kernel beside wrong counts at rest: at its end, and in the answers if its calls are forced."""
+    end, (*_, last) = end_of(script), races.rests(script)
+    is_odd = end is not None and (end.free, end.resv) != (end.total, last.resv)
+    at_end = (f"where no file is left {end.free} of {end.total} pages are free, and {end.resv} reserved",) if is_odd else ()
+    return (*forced.oddities(script), *at_end) if forced.has_force(script) else at_end
+
+
+def wrong_end(script: Script, known: list[Known]) -> WrongCount | None:
+    """What is wrong where no task and no file of a script is left, of one whose calls were compared one by one."""
+    end = end_of(script)
+    if end is None or (end.free, end.resv) == (end.total, 0):
+        return None
+    is_loss = end.free == end.total and end.resv < 0 and is_truncated_beside_a_touch(script)
+    calls = Script(script.name, script.header, [call_of(line) for line in script.lines])
+    rest = WrongRest(len(script.lines) + 1, AT_ITS_END, f"all {end.total} pages free, and none reserved", races.Rest(end.free, end.resv))
+    return WrongCount(script.name, f"{end.free}/{end.resv}", race_rule(known, "t") if is_loss else None, (), calls, rest)
 
 
 def wrong_count(script: Script, known: Known | None, findings: tuple[str, ...] = ()) -> WrongCount:
