@@ -3,8 +3,9 @@
 A script of the first kind makes ready what its calls need, holds a call of task 1 in the kernel, has task 2 make another
 one meanwhile, and lets the first go on. Each function in which a call decides something is tried with each two calls that
 can meet there. In a script of the second kind one or two allocations of kernel memory of a call are denied: its first,
-its second, and so on. There are no truncations but at the end, and each pool has frames for all, so on a right kernel no
-count goes wrong, and no call finds the pool empty.
+its second, and so on. Each pool has frames for all. Linux loses a reservation only where a truncation takes off a page at
+which a touch works, and no script has that: its truncations are beside calls that hold the inode's lock, as they do
+themselves, and beside touches below the new size. So on a right kernel no count goes wrong, and no call finds the pool empty.
 """
 from __future__ import annotations
 
@@ -56,6 +57,12 @@ PLACES = (
 HELD = ("store 1 5", "store 3 5", "alloc 0 1 3", "map 0 0 4", "punch 0 1 1", "punch 0 0 5")
 # what is made meanwhile: touches, and beside a touch also calls that take the file's lock, which other held calls have
 TOUCHES, LOCKING = ("store 1 6", "store 2 6"), ("alloc 0 1 3", "map 0 0 5", "punch 0 1 1")
+# truncations beside which no count may be lost: to nothing, which waits for each call but a touch, and to the size behind a touch
+TRUNCATIONS = {"alloc": "trunc 0 0", "map": "trunc 0 0", "punch": "trunc 0 0", "store": "trunc 0 4"}
+CUTTABLE = ("reserved", "placed")
+# where a truncation is held, and what is made meanwhile: it waits, or it touches a page below the new size
+CUTTING = ("removal", "deletion", "freeing")
+CUT, UNCUT = "trunc 0 2", ("store 1 6", "alloc 0 1 3", "map 0 0 5", "punch 0 1 1")
 # what is made in a memory cgroup that may have nothing, of a file without a page: what a page is placed in can't be had then
 POOR = ("store 1 5", "store 3 5", "load 2", "alloc 0 1 1", "alloc 0 0 3", "allock 0 3 1")
 EMPTY = {
@@ -85,11 +92,19 @@ def held() -> Iterator[Script]:
         if kind_of(first) not in place.kinds:
             continue
         others = (TOUCHES[0], *LOCKING) if kind_of(first) == "store" else TOUCHES
+        others += (TRUNCATIONS[kind_of(first)],) if setting in CUTTABLE else ()
         for at, other in enumerate(others, 1):
-            # (behind them each page is touched, of which some were promised)
-            hold = f"hold {'|'.join(place.functions)} 1 {first}"
-            lines = (hold, f"start 2 {other}", "wait 2", "wait 1", "begin 1 load 1", "begin 1 load 2")
-            yield script(f"held.{place.name}.{setting}.{number}.{at}", setting, lines)
+            yield script(f"held.{place.name}.{setting}.{number}.{at}", setting, beside(place, first, other))
+    for place, setting, (at, other) in product(PLACES, (*CUTTABLE, "allocated"), enumerate(UNCUT, 1)):
+        if place.name in CUTTING:
+            yield script(f"held.{place.name}.{setting}.cut.{at}", setting, beside(place, CUT, other))
+
+
+def beside(place: Place, first: str, other: str) -> tuple[str, ...]:
+    """A call that is held, and another one meanwhile; behind them each page is touched, of which some were promised."""
+    # (where a truncation may be the last of both, the pages are promised anew)
+    again = ("begin 1 map 0 0 5",) if "trunc" in first + other else ()
+    return (f"hold {'|'.join(place.functions)} 1 {first}", f"start 2 {other}", "wait 2", "wait 1", *again, "begin 1 load 1", "begin 1 load 2")
 
 
 def denied() -> Iterator[Script]:

@@ -55,6 +55,25 @@ def wrong(lines: tuple[str, ...]) -> str:
     return "\n".join(report.wrong_text(found[0])) if found and found[0].known is None else "known" if found else "right"
 
 
+def takes_a_touched_page_off(script: Script) -> bool:
+    """Whether a truncation and a touch of a page that it takes off are at work at once, in a script whose pages are mapped in the order of the file."""
+    at_work: dict[str, list[str]] = {}
+    for line in script.lines:
+        kind, *words = line.split()
+        words = words[words[0] not in ("1", "2") :]
+        if kind == "wait":
+            at_work.pop(words[0], None)
+            continue
+        calls = [*at_work.values(), words[1:]]
+        sizes = [int(it[2]) for it in calls if it[0] == "trunc"]
+        touched = [int(it[1]) for it in calls if it[0] in ("load", "store")]
+        if any(page >= size for page in touched for size in sizes):
+            return True
+        if kind in ("start", "hold"):
+            at_work[words[0]] = words[1:]
+    return False
+
+
 def faults_of_scripts() -> Iterator[tuple[str, object]]:
     """That the scripts are what they say, and that the recorder reads them."""
     with tempfile.TemporaryDirectory(prefix="forced-") as name:
@@ -67,7 +86,11 @@ def faults_of_scripts() -> Iterator[tuple[str, object]]:
             yield f"{suite}: the recorder reads it", checked.stdout.startswith(f"{len(some)} scripts, ") or checked.stderr
             yield f"{suite}: each name stands once", len({it.name for it in some}) == len(some)
             yield f"{suite}: each is forced", all(map(forced.has_force, some))
-            yield f"{suite}: truncated at its end alone", all([" trunc " in line for line in it.lines].index(True) == len(it.lines) - 1 for it in some)
+            yield f"{suite}: truncated at its end", all(it.lines[-1] == forced.END for it in some)
+            yield f"{suite}: no truncation takes off what is touched beside it", [it for it in some if takes_a_touched_page_off(it)] == []
+        cut = ["hold region_add 1 store 2 5", "start 2 trunc 0 2", "wait 2", "wait 1"]
+        yield "a touched page is taken off", takes_a_touched_page_off(Script("a", HEADER, cut))
+        yield "a page below the size isn't", not takes_a_touched_page_off(Script("a", HEADER, [cut[0].replace("store 2", "store 1"), *cut[1:]]))
         words = [room / "record", room / suites.HELD]
         yield "held only with --race", "which --race allows" in subprocess.run(words, capture_output=True, text=True, check=False).stderr
 

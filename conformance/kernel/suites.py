@@ -30,7 +30,8 @@ class Suite:
 
 AT_ONCE = "calls at once"
 BY_COUNTS = "quotas, resizes; answers, pages and words (only counts at rest are compared); schedules that chance misses"
-BY_COUNTS_ALONE = "truncations, resizes; answers and pages (counts at rest are compared)"
+NOT_BY_COUNTS = "answers and pages (counts at rest are compared)"
+BY_COUNTS_ALONE = f"truncations, resizes; {NOT_BY_COUNTS}"
 # the suites whose schedules are forced
 HELD, DENIED, CHARGED = "held", "denied", "charged"
 # what no suite has
@@ -44,7 +45,7 @@ SUITES = {
         Suite("quota", ("calls-quota.txt",), f"{AT_ONCE}, resizes, lengths in bytes"),
         Suite("resize", ("calls-resize.txt",), f"{AT_ONCE}, quotas, lengths in bytes"),
         Suite(PEERS, tuple(f"{PEERS}/{path.name}" for path in sorted((FOLDER / PEERS).glob("*.txt"))), "what its authors don't assert of calls that overlap"),
-        Suite(HELD, (), f"calls that are held at other places; {BY_COUNTS_ALONE}", True, forced.held),
+        Suite(HELD, (), f"calls that are held at other places; truncations of what is touched meanwhile, resizes; {NOT_BY_COUNTS}", True, forced.held),
         Suite(DENIED, (), f"{AT_ONCE}, allocations of whole pages; {BY_COUNTS_ALONE}", True, forced.denied),
         Suite(CHARGED, (), f"{AT_ONCE}, descriptors of the reserve map; {BY_COUNTS_ALONE}", True, forced.charged),
         Suite("races", ("races.txt", "races-by-kind.txt"), BY_COUNTS, True),
