@@ -97,10 +97,11 @@ SETS = (
     Rules("Linux's but T and U", "BFPSN", True, True),
     Rules("Linux's but U", "BFPSTN", False, False),
     Rules("Linux's", "BFPSTNU", True, False),
-    Rules("accounting repaired", "BFPSTNA", True, False),
-    Rules("slots repaired", "BFPSTNV", False, True),
-    Rules("slots repaired", "BFPSTNUV", True, False),
-    Rules("both repaired", "BFPSTNAV", True, True),
+    Rules("the repair accounting", "BFPSTNA", True, False),
+    # (not a repair that a kernel was built with: what the truncation of slots does alone)
+    Rules("slots without accounting", "BFPSTNV", False, True),
+    Rules("slots without accounting", "BFPSTNUV", True, False),
+    Rules("the repair slots", "BFPSTNAV", True, True),
 )
 
 
