@@ -156,6 +156,14 @@ ENDS = (
     ("and one isn't free", ("start 1 trunc 0 0 = started", "start 2 load 0 = started"), "total 4 free 3 resv -1 surp 0", "new"),
     ("a truncation is beside an allocation", ("start 1 trunc 0 0 = started", "start 2 alloc 0 0 1 = started"), "total 4 free 4 resv -1 surp 0", "new"),
 )
+# a suite, a script of it, a call that the machine doesn't answer as recorded or not at all, and another answer: new, unless it is another known one
+RECORDED = (
+    ("fixed", "b:sizes-and-modes", "begin 1 xftruncate 0 2097153", "done | 4 1 | 1+1 0 | 0", "new"),
+    ("fixed", "b:partial-punch-zeroes", "begin 1 load 0", "word 258 | 3 0 | 1 1 | 1", "new"),
+    ("fixed", "b:map-lengths", "begin 1 xmap 0 4096 2097152", "mapped 1 | 4 1 | 1 0 | 0", "new"),
+    ("resize", "z:keeps-reserved-frames", "begin 1 trunc 0 1", "done | 3 1 | 1 0 | 0 | total 3 surplus 1", "new"),
+    ("resize", "z:keeps-reserved-frames", "resize 2", "resized 4 | 4 4 | 4 0 | 0 | total 4 surplus 2", SURPLUS),
+)
 KNOWN_TEXTS = {key: "" for key in ("title", "script", "kernel", "machine", "cause")} | {"versions": [], "functions": [], "links": []}
 BAD_FILES = (
     ({}, "there is no rule"),
@@ -237,6 +245,26 @@ def faults_of_ends() -> Iterator[tuple[str, object]]:
         yield f"behind races {resv}", [str(it.known or "new") for it in found] == [ends] or found
     recorded = [it for path in (TOP / "conformance").glob("calls-*.txt") for it in compare.scripts(path)]
     yield "each recorded script tells its end", len(recorded) == 295 and all(map(endings.end_of, recorded))
+
+
+def faults_of_recorded_answers() -> Iterator[tuple[str, object]]:
+    """That calls which the machine doesn't answer are compared with a recording, and that of a kernel with another known difference none are."""
+    for suite, name, call, answer, ends in RECORDED:
+        before = suites.recorded_of(suites.SUITES[suite])
+        comparison, lines = Comparison(PROGRAM, OLD_KERNEL, known_issues(), before), before[name].lines
+        at = next(number for number, line in enumerate(lines) if line.startswith(f"{call} = "))
+        found = comparison.result(before[name])
+        yield f"{name} as recorded", (found.is_new, found.agreed + found.recorded) == (False, len(lines)) or found
+        found = comparison.result(replace(before[name], lines=[*lines[:at], f"{call} = {answer}", *lines[at + 1 :]]))
+        yield f"{name}, {call}", end_of(found) == ends or found
+        text = "\n".join(report.difference_text(found.difference)) if ends == "new" else ""
+        was = lines[at].partition(" = ")[2]
+        yield f"{name}, {call}: what is said", ends != "new" or all(it in text for it in (f"kernel:  {answer}", f"6.1.192: {was}")) or text
+    leak = Case("", NEW_KERNEL, (*FULL, "begin 1 alloc 1 0 1 = noframe | 0 0 | 1 1, 0 0 | 0 | used 2", "begin 1 trunc 0 0 = done | 1 0 | 0 0, 0 0 | 0 | used 1"), "")
+    version, (script,) = parsed(recording(leak))
+    before = replace(script, lines=[script.lines[0], script.lines[1].replace("used 2", "used 1"), script.lines[2].replace("used 1", "used 0")])
+    found = Comparison(PROGRAM, version, known_issues(), {script.name: before}).result(script)
+    yield "a leak goes another way than the recording", (end_of(found), found.recorded) == (LEAK, 0) or found
 
 
 class Leaking(kernels.Kernel):
@@ -680,7 +708,7 @@ def decided() -> list[str]:
 
 
 def main() -> int:
-    parts = (faults_of_known, faults_of_ends, faults_of_files, faults_of_reading, faults_of_report, faults_of_commands, faults_of_recorded)
+    parts = (faults_of_known, faults_of_ends, faults_of_recorded_answers, faults_of_files, faults_of_reading, faults_of_report, faults_of_commands, faults_of_recorded)
     parts += (faults_of_document, faults_of_lacks, faults_of_reproducing, faults_of_saying, faults_of_interrupts, faults_of_races)
     parts += (faults_of_covering, faults_of_whole, faults_of_basis, faults_of_again, faults_of_boots, faults_of_minimizing)
     return tally.ended("kernel", parts)

@@ -164,7 +164,9 @@ def run_test(options: argparse.Namespace) -> int:
     answering, kernel = machine(options.program), kernel_of(options)
     most = options.race_calls or (RACE_CALLS if kernel.is_slow else None)
     races = most, symbols, options.page
-    work = [Work(it.name, suites.scripts_of(it), it.has_races, peer_scripts() if it.name == suites.PEERS else [], *races) for it in chosen]
+    recorded = {it.name: suites.recorded_of(it) if options.page == kernels.PAGE else {} for it in chosen}
+    asserted = {suites.PEERS: peer_scripts()}
+    work = [Work(it.name, suites.scripts_of(it), it.has_races, asserted.get(it.name, []), *races, recorded[it.name]) for it in chosen]
     work += [Work(name, some, suites.has_races(some), [], *races) for name, some in files]
     run = Running(options, answering.basis, len(work))
     try:

@@ -1,4 +1,5 @@
-"""Compares what a kernel answered to a script with the machine, up to the first call that differs."""
+"""Compares what a kernel answered to a script with the machine, up to the first call that differs; where that is a known rule, or the
+machine hasn't such a call, with what Debian's 6.1.192 answered from there on, if that was recorded."""
 from __future__ import annotations
 
 from dataclasses import dataclass, field, replace
@@ -7,6 +8,10 @@ import compare
 from compare import Line, Pool, Program, Script, Told, read
 from kernel.known import Known, Seen, end_before, ends_behind, matching, translated
 from kernel.peers import Broken
+
+
+# the kernel whose answers conformance/calls-*.txt has
+RECORDED = "6.1.192"
 
 
 @dataclass(frozen=True)
@@ -18,6 +23,9 @@ class Difference:
     known: Known | None
     # the later calls of the script that differ too, each with its number
     spoiled: list[tuple[int, str]]
+    # what the kernel differs from, if not from the machine; and both answers then, as they were recorded
+    other: str = "machine"
+    answers: tuple[str, str] | None = None
 
     @property
     def number(self) -> int:
@@ -47,6 +55,8 @@ class Result:
     difference: Difference | None = None
     ended: Known | None = None
     broken: list[BrokenAssertion] = field(default_factory=list)
+    # how many calls behind those that agree are as they were recorded
+    recorded: int = 0
 
     @property
     def differs(self) -> bool:
@@ -72,6 +82,8 @@ class Comparison:
     program: Program
     version: str
     known: list[Known] = field(default_factory=list)
+    # the scripts with what Debian's 6.1.192 answered, by name
+    recorded: dict[str, Script] = field(default_factory=dict)
 
     def machine_told(self, pool: Pool) -> Told:
         """The machine's answer, with its words replaced where a known issue says that Linux has another one."""
@@ -79,7 +91,29 @@ class Comparison:
         return told._replace(answer=translated(self.known, told.answer, bool(told.used)))
 
     def result(self, script: Script) -> Result:
-        """How far a recorded script agrees."""
+        """How far a recorded script agrees, with the machine and then with the recording."""
+        found, before = self.by_machine(script), self.recorded.get(script.name)
+        if before is None or found.is_new or found.agreed == found.calls:
+            return found
+        # (a kernel whose known difference isn't that of the recording goes another way)
+        is_other = found.difference is not None and script.lines[found.agreed] != before.lines[found.agreed]
+        return found if is_other else self.by_recording(script, before, found)
+
+    def by_recording(self, script: Script, before: Script, found: Result) -> Result:
+        """Compares the calls behind those that agree with a recording of them."""
+        lines = list(enumerate(zip(script.lines, before.lines, strict=True)))[found.agreed :]
+        others = [number for number, (line, was) in lines if line != was]
+        if not others:
+            return replace(found, recorded=len(lines))
+        at, later = others[0], [(number + 1, read(script.lines[number]).call) for number in others[1:]]
+        line, was = read(script.lines[at]), read(before.lines[at])
+        seen = Seen(line.call, line.linux, was.linux, was.linux.answer, self.version, script.lines[:at], compare.opened(self.program, script.header))
+        cut = Script(script.name, script.header, [read(text).call for text in script.lines[: at + 1]])
+        answers = (script.lines[at].partition(" = ")[2], before.lines[at].partition(" = ")[2])
+        return replace(found, recorded=at - found.agreed, ended=None, difference=Difference(cut, seen, None, later, RECORDED, answers))
+
+    def by_machine(self, script: Script) -> Result:
+        """How far a recorded script agrees with the machine."""
         pool = compare.opened(self.program, script.header)
         for agreed, text in enumerate(script.lines):
             line = read(text)

@@ -15,12 +15,13 @@ from kernel.problem import Problem
 from kernel.suites import NOWHERE, lacks
 from kernel.testing import Stopped, Tested, WrongCount
 
-HEADS = ("suite", "scripts", "calls", "agree", "not compared", "differ", "known rule", "new", "seconds")
+HEADS = ("suite", "scripts", "calls", "agree", "as recorded", "not compared", "differ", "known rule", "new", "seconds")
 RACE_HEADS = ("races", "audited", "scripts", "right", "known rule", "new", "races of all", "calls of a task", "as written", "seconds")
 FORCED_HEADS = ("forced", "scripts", "as asked", "right", "new", "seconds")
 COVERED = ("suite", "calls", "new", "known")
 LEGEND = (
-    "not compared: calls from the first difference, byte call or end of a known rule on; differ: scripts, each known or new;",
+    "as recorded: calls from the first difference, byte call or end of a known rule on that are as 6.1.192 answered; differ: scripts,",
+    "each known or new; not compared: other calls behind these, or calls that overlap;",
     "known rule: scripts that end at one, with a difference or without",
 )
 RACE_LEGEND = (
@@ -37,7 +38,7 @@ MOST, SPOILED = 20, 5
 
 
 def row(it: Tested) -> tuple[str, ...]:
-    calls = (it.calls, it.agreed, it.calls - it.agreed)
+    calls = (it.calls, it.agreed, it.as_recorded, it.calls - it.agreed - it.as_recorded)
     return (it.name, *map(str, (len(it.results), *calls, it.differ, it.known, it.new)), f"{it.seconds:.0f}")
 
 
@@ -99,13 +100,18 @@ def spoiled_text(it: Difference) -> str:
     return ", ".join(f"{number} ({call.removeprefix('begin ')})" for number, call in it.spoiled[:SPOILED]) + more
 
 
+def answers_of(it: Difference) -> tuple[str, str]:
+    """The kernel's answer, and the one that it differs from."""
+    return it.answers or (answer_text(it.seen.kernel), answer_text(it.seen.machine))
+
+
 def difference_text(it: Difference) -> list[str]:
     """A new difference: where, in which fields, both answers, what it spoils, and its script."""
-    seen = it.seen
+    seen, (kernel, other) = it.seen, answers_of(it)
     return [
         f"{it.script.name}, call {it.number}: {seen.call}: {', '.join(seen.fields())}",
-        f"  kernel:  {answer_text(seen.kernel)}",
-        f"  machine: {answer_text(seen.machine)}",
+        f"  kernel:  {kernel}",
+        f"  {it.other}: {other}",
         f"  spoils:  {spoiled_text(it)}",
         *(f"    {line}" for line in script_text(it)),
     ]
@@ -211,7 +217,7 @@ def brief_news(all_of_them: list[Tested]) -> list[str]:
 def difference_data(it: Difference) -> dict[str, object]:
     return {
         "script": "\n".join(script_text(it)), "call": it.seen.call, "number": it.number, "fields": it.seen.fields(),
-        "kernel": answer_text(it.seen.kernel), "machine": answer_text(it.seen.machine), "known": it.known and it.known.name,
+        "kernel": answers_of(it)[0], it.other: answers_of(it)[1], "known": it.known and it.known.name,
         "spoiled": [{"number": number, "call": call} for number, call in it.spoiled],
     }  # fmt: skip
 
@@ -227,7 +233,7 @@ def suite_data(it: Tested) -> dict[str, object]:
     broken = [{"script": one.broken.script, "assertion": str(one.broken), "known": one.known and one.known.name} for result in it.results for one in result.broken]
     raced = {"races": it.rounds.races, "race_calls": it.rounds.calls, "race_calls_written": it.rounds.written, "audits": it.audits} if it.rounds else {}
     return raced | {
-        "suite": it.name, "scripts": len(it.results), "calls": it.calls, "agree": it.agreed, "differ": it.differ, "known": it.known,
+        "suite": it.name, "scripts": len(it.results), "calls": it.calls, "agree": it.agreed, "as_recorded": it.as_recorded, "differ": it.differ, "known": it.known,
         "new": it.new, "seconds": round(it.seconds, 1), "differences": differences, "wrong_counts": counts,
         "broken_assertions": broken, "stopped": [stopped_data(one) for one in it.stopped], "not_made": it.left,
     }  # fmt: skip

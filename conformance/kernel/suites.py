@@ -40,7 +40,7 @@ control groups, NUMA, migration, memory failures (poison), pages of other sizes 
 SUITES = {
     it.name: it
     for it in (
-        Suite("fixed", ("calls-fixed.txt",), f"{AT_ONCE}, quotas, resizes; lengths in bytes are made, and not compared"),
+        Suite("fixed", ("calls-fixed.txt",), f"{AT_ONCE}, quotas, resizes"),
         Suite("random", ("calls-random.txt",), f"{AT_ONCE}, quotas, resizes, lengths in bytes"),
         Suite("quota", ("calls-quota.txt",), f"{AT_ONCE}, resizes, lengths in bytes"),
         Suite("resize", ("calls-resize.txt",), f"{AT_ONCE}, quotas, lengths in bytes"),
@@ -87,6 +87,12 @@ def scripts_of(suite: Suite) -> list[Script]:
     if suite.made is not None:
         return list(suite.made())
     return [script for name in suite.files for script in read_scripts(FOLDER / name)]
+
+
+def recorded_of(suite: Suite) -> dict[str, Script]:
+    """The scripts of a suite with what was recorded of Debian's 6.1.192, by name, if its files have that."""
+    files = [FOLDER / name for name in suite.files if name.startswith("calls-")]
+    return {script.name: script for path in files for script in scripts(path)}
 
 
 def has_races(some: list[Script]) -> bool:

@@ -110,6 +110,11 @@ class Tested:
         return sum(it.agreed for it in self.results)
 
     @property
+    def as_recorded(self) -> int:
+        """How many calls behind those that agree with the machine are as they were recorded."""
+        return sum(it.recorded for it in self.results)
+
+    @property
     def known(self) -> int:
         """How many scripts end at a known issue or rule."""
         ended = [it.ended or (it.difference and it.difference.known) for it in self.results]
@@ -195,6 +200,8 @@ class Work:
     symbols: Path | None = None
     # the size of the huge pages that are used, in KiB
     page: int = PAGE
+    # the scripts with what another kernel answered, by name
+    recorded: dict[str, Script] = field(default_factory=dict)
 
     def asked(self) -> list[Script]:
         """The scripts as they are made."""
@@ -255,7 +262,7 @@ def tested(kernel: Kernel, machine: Machine, known: list[Known], work: Work, new
     """What one suite shows; what is new is passed on as soon as it is seen."""
     began = time.monotonic()
     behind = Behind(work.symbols, work.page) if work.symbols and work.has_races else None
-    following = Following(Comparison(machine.program, "", known), work, news, is_first)
+    following = Following(Comparison(machine.program, "", known, work.recorded), work, news, is_first)
     asked = work.asked()
     version, answered, recording = recorded(kernel, work.name, asked, work.has_races, behind, following.look)
     following.comparison.version = version
