@@ -4,8 +4,9 @@ A script of the first kind makes ready what its calls need, holds a call of task
 one meanwhile, and lets the first go on. Each function in which a call decides something is tried with each two calls that
 can meet there. In a script of the second kind one or two allocations of kernel memory of a call are denied: its first,
 its second, and so on. Each pool has frames for all. Linux loses a reservation only where a truncation takes off a page at
-which a touch works, and no script has that: its truncations are beside calls that hold the inode's lock, as they do
-themselves, and beside touches below the new size. So on a right kernel no count goes wrong, and no call finds the pool empty.
+which a touch works. Most truncations here are beside calls that hold the inode's lock, as they do themselves, or beside
+touches below the new size; the others come where by Linux's rules all is right again once the touch's page is removed.
+So on a right kernel no count goes wrong, and no call finds the pool empty.
 """
 from __future__ import annotations
 
@@ -63,6 +64,10 @@ CUTTABLE = ("reserved", "placed")
 # where a truncation is held, and what is made meanwhile: it waits, or it touches a page below the new size
 CUTTING = ("removal", "deletion", "freeing")
 CUT, UNCUT = "trunc 0 2", ("store 1 6", "alloc 0 1 3", "map 0 0 5", "punch 0 1 1")
+# where a truncation may take off a page that is touched, if it is reserved and if it isn't: the touch asks the reserve map only then, or has
+# committed what the map answered. The reservations of another file, which are counted meanwhile, keep the count above zero
+WIDER_POOL, KEPT = "pool 16 2 8 2 16", "begin 1 map 1 0 3"
+RECOVERED = {"store 1 5": ("frame", "page"), "store 3 5": ("frame", "quota", "commit", "page")}
 # what is made in a memory cgroup that may have nothing, of a file without a page: what a page is placed in can't be had then
 POOR = ("store 1 5", "store 3 5", "load 2", "alloc 0 1 1", "alloc 0 0 3", "allock 0 3 1")
 EMPTY = {
@@ -78,8 +83,8 @@ DENIED += ("punch 0 1 1", "punch 0 3 1", "unmap 0")
 ALLOCATIONS = 6
 
 
-def script(name: str, setting: str, lines: tuple[str, ...]) -> Script:
-    return Script(name, POOL, [*MAPPED, *SETTINGS[setting], *lines, END])
+def script(name: str, setting: str, lines: tuple[str, ...], pool: str = POOL) -> Script:
+    return Script(name, pool, [*MAPPED, *SETTINGS[setting], *lines, END])
 
 
 def kind_of(call: str) -> str:
@@ -98,13 +103,21 @@ def held() -> Iterator[Script]:
     for place, setting, (at, other) in product(PLACES, (*CUTTABLE, "allocated"), enumerate(UNCUT, 1)):
         if place.name in CUTTING:
             yield script(f"held.{place.name}.{setting}.cut.{at}", setting, beside(place, CUT, other))
+    for first, place in product(RECOVERED, PLACES):
+        if place.name in RECOVERED[first]:
+            lines = (KEPT, hold(place, first), "start 2 trunc 0 0", "wait 2", "wait 1", "begin 2 trunc 0 0", "begin 1 trunc 1 0")
+            yield script(f"held.{place.name}.recovered.{first.split()[1]}", "reserved", lines, WIDER_POOL)
+
+
+def hold(place: Place, call: str) -> str:
+    return f"hold {'|'.join(place.functions)} 1 {call}"
 
 
 def beside(place: Place, first: str, other: str) -> tuple[str, ...]:
     """A call that is held, and another one meanwhile; behind them each page is touched, of which some were promised."""
     # (where a truncation may be the last of both, the pages are promised anew)
     again = ("begin 1 map 0 0 5",) if "trunc" in first + other else ()
-    return (f"hold {'|'.join(place.functions)} 1 {first}", f"start 2 {other}", "wait 2", "wait 1", *again, "begin 1 load 1", "begin 1 load 2")
+    return (hold(place, first), f"start 2 {other}", "wait 2", "wait 1", *again, "begin 1 load 1", "begin 1 load 2")
 
 
 def denied() -> Iterator[Script]:
