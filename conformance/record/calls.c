@@ -9,6 +9,7 @@
 #include <string.h>
 #include <sys/mman.h>
 #include <sys/stat.h>
+#include <sys/wait.h>
 #include <unistd.h>
 
 #include "task.h"
@@ -113,7 +114,7 @@ static void map(struct desk *desk, int file, struct mapping mapping, uint64_t of
         answer(desk, "noaddress");
         return;
     }
-    flags |= MAP_SHARED | MAP_FIXED_NOREPLACE;
+    flags |= (mapping.is_private ? MAP_PRIVATE : MAP_SHARED) | MAP_FIXED_NOREPLACE;
     got = mmap(address_of(base), length, PROT_READ | PROT_WRITE, flags, file, (off_t)offset);
     if (got == MAP_FAILED) {
         answer_error(desk, errno);
@@ -132,13 +133,13 @@ static void map_pages(struct desk *desk, struct files files, const uint64_t *num
         map(desk, files.open[mapping.file], mapping, numbers[1] * HUGE_PAGE, numbers[2] * HUGE_PAGE, flags);
 }
 
-static void map_bytes(struct desk *desk, struct files files, const uint64_t *numbers)
+static void map_bytes(struct desk *desk, struct files files, const uint64_t *numbers, bool is_private, int flags)
 {
     uint64_t offset = numbers[1], length = numbers[2];
     uint64_t pages = length / HUGE_PAGE + (length % HUGE_PAGE != 0);
-    struct mapping mapping = {.file = numbers[0], .first = offset / HUGE_PAGE, .pages = pages};
+    struct mapping mapping = {.file = numbers[0], .first = offset / HUGE_PAGE, .pages = pages, .is_private = is_private};
 
-    map(desk, files.open[mapping.file], mapping, offset, length, 0);
+    map(desk, files.open[mapping.file], mapping, offset, length, flags);
 }
 
 /* The mapping that begins at a page, or NULL. */
@@ -218,6 +219,24 @@ static void touch(struct desk *desk, struct files files, uint64_t page, const ui
     is_touching = 0;
 }
 
+/* Has a child of the task write a page's word, and end. (It writes the answer, too: the desk is shared.) */
+static void store_by_child(struct desk *desk, struct files files, uint64_t page, const uint64_t *word)
+{
+    pid_t child = fork();
+    int ended = 0;
+
+    if (child < 0) {
+        answer_error(desk, errno);
+        return;
+    }
+    if (!child) {
+        touch(desk, files, page, word);
+        _exit(0);
+    }
+    if (waitpid(child, &ended, 0) != child || ended)
+        answer(desk, "child %d", ended);
+}
+
 static void load_byte(struct desk *desk, uint64_t offset)
 {
     volatile uint8_t *place = (volatile uint8_t *)(WINDOW_ADDRESS + offset);
@@ -282,7 +301,15 @@ void make_call(struct desk *desk, struct files files)
     case OP_TRUNC:
         return truncate_pages(desk, files, numbers);
     case OP_X_MAP:
-        return map_bytes(desk, files, numbers);
+        return map_bytes(desk, files, numbers, false, 0);
+    case OP_X_PRIVATE:
+        return map_bytes(desk, files, numbers, true, 0);
+    case OP_X_PRIVATEN:
+        return map_bytes(desk, files, numbers, true, MAP_NORESERVE);
+    case OP_X_DONTNEED:
+        return answer_result(desk, madvise(address_of(numbers[0]), numbers[1], MADV_DONTNEED));
+    case OP_X_FORK:
+        return store_by_child(desk, files, numbers[0], &numbers[1]);
     case OP_X_UNMAP:
         return unmap(desk, numbers[0], numbers[1]);
     case OP_X_LOAD:

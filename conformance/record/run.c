@@ -179,14 +179,16 @@ static uint64_t frame_at(const struct task *task, uint64_t page)
 
 static size_t keep_mapping(struct entries *entries, const struct task *task, const struct mapping *mapping)
 {
-    size_t before = entries->count;
+    size_t count = 0;
 
     for (uint64_t k = 0; k < mapping->pages; k++) {
         uint64_t frame = frame_at(task, mapping->base + k);
-        if (frame)
+        count += frame != 0;
+        /* (a page of one's own may be in another frame than the file's) */
+        if (frame && !mapping->is_private)
             keep_entry(entries, (struct entry){mapping->file, mapping->first + k, frame});
     }
-    return entries->count - before;
+    return count;
 }
 
 static size_t keep_task(struct entries *entries, const struct task *task)

@@ -32,6 +32,11 @@ enum operation {
     OP_EXIT,
     /* calls in bytes, of which the kernel alone says what is wrong */
     OP_X_MAP,
+    /* mappings of one's own, and what else the machine doesn't have */
+    OP_X_PRIVATE,
+    OP_X_PRIVATEN,
+    OP_X_DONTNEED,
+    OP_X_FORK,
     OP_X_UNMAP,
     OP_X_LOAD,
     OP_X_FALLOCATE,

@@ -26,10 +26,12 @@ enum {
 /* Where page 0 of a task lies. */
 #define WINDOW_ADDRESS UINT64_C(0x100000000000)
 
-/* Pages of a file that are mapped: from which virtual page on, from which index, and how many. */
+/* Pages of a file that are mapped: from which virtual page on, from which index, and how many; and whether what is stored there is the
+ * task's own. */
 struct mapping {
     uint64_t base, first, pages;
     unsigned file;
+    bool is_private;
 };
 
 /* What a task and the recorder have in common: what was asked, what was answered, and what is mapped. */
