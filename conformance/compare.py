@@ -37,14 +37,14 @@ SURPLUS = "surplus"
 # how many scripts and calls the files beside this program have, so that none is lost unnoticed
 RECORDED = {"calls-fixed.txt": (33, 177), "calls-random.txt": (200, 6737), "calls-quota.txt": (31, 878), "calls-resize.txt": (31, 968)}
 
-# a byte call, which the machine doesn't have, and a call beside others, whose order isn't told
-NO_TRACE = re.compile(r"begin \d+ x|start ")
+# a byte call and surplus pages, which the machine doesn't have, and a call beside others, whose order isn't told
+NO_TRACE = re.compile(r"begin \d+ x|start |overcommit ")
 
 # the sizes of a script's pool, and its quota, if it has one
 HEADER = re.compile(r"pool( \d+){4,5}$")
 
 # a call, and what the kernel said of it: the answer alone where it is one beside others
-CALL = r"begin \d+ (?:(?:mapn?|allock?|punch)(?: \d+){3}|(?:trunc|store)(?: \d+){2}|(?:load|unmap) \d+|exit|x\w*(?: \w+)*)|resize \d+"
+CALL = r"begin \d+ (?:(?:mapn?|allock?|punch)(?: \d+){3}|(?:trunc|store)(?: \d+){2}|(?:load|unmap) \d+|exit|x\w*(?: \w+)*)|(?:resize|overcommit) \d+"
 SAID = r" \| \d+ -?\d+ \| \d+(?:\+\d+)? \d+(?:, \d+(?:\+\d+)? \d+)* \| \d+(?: \d+)*(?: \| used -?\d+)?(?: \| total \d+ surplus \d+)?"
 ANSWERED = re.compile(rf"(?:(?:{CALL}) = \w+(?: \w+)?(?:{SAID})?|(?:start|wait|race) .* = .*)$")
 

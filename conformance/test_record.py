@@ -61,6 +61,10 @@ BAD = [
     (POOL + "a b c d e f g h i j k\nend\n", 3, "too many words"),
     (POOL + "resize 4097\nend\n", 3, "4097 is too large"),
     (POOL + "resize\nend\n", 3, "a resize is"),
+    (POOL + "overcommit\nend\n", 3, "an overcommit is"),
+    (POOL + "overcommit 4097\nend\n", 3, "4097 is too large"),
+    (POOL + "begin 1 xprivate 1 0 2097152\nend\n", 3, "the pool has no file 1"),
+    (POOL + "begin 1 xfork 0\nend\n", 3, "'xfork' has 2 numbers, and here 1"),
     (POOL + "race 1 2 0\nend\n", 3, "0 is too small"),
     (POOL + "race 1 2 3 mz\nend\n", 3, "'z' is no kind of call"),
     (POOL + "race 1 2\nend\n", 3, "a race is"),
@@ -90,6 +94,7 @@ GOOD = [
     ("# a kernel\n" + POOL + "begin 1 exit = done | 4 0 | 0 0 | 0 0\nend total 4 free 4 resv 0 surp 0\n", (1, 1)),
     (POOL + "start 2 load 0 = started\nbegin 1 exit\nresize 3\nstart 1 load 0 = refused notalive\nwait 2\nwait 1\nend\n", (1, 6)),
     (POOL + "hold a|b 1 load 0\nwait 1\nhold a deny 1-2 2 load 0\nwait 2\ndeny 3 1 load 0\ndeny charged 1 load 0\nend\n", (1, 6)),
+    (POOL + "overcommit 2\nbegin 1 xprivate 0 0 9\nbegin 1 xprivaten 0 0 9\nbegin 1 xdontneed 0 9\nbegin 2 xfork 0 9\nend\n", (1, 5)),
     (POOL + "resize 0\nend\n" + POOL + "race 1 2 3\nbegin 2 load 1048575\nbegin 1 store 0 18446744073709551615\nend\n", (2, 4)),
 ]
 # words, and the status and some words that they end with

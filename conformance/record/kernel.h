@@ -18,7 +18,7 @@ struct settings settings_of_kernel(void);
 /* Asks the kernel for so many huge pages. How many it has then, its counts tell. */
 void ask_for_frames(long frames);
 
-/* Asks the kernel to give surplus pages to no one who finds the pool empty. */
+/* Asks the kernel to give so many surplus pages at most to who finds the pool empty. */
 void ask_for_overcommit(long frames);
 
 /* Ends the process where this isn't a machine on which scripts can be recorded. */

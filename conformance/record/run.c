@@ -143,6 +143,7 @@ static void end_pool(struct pool *pool)
             end_task(&pool->tasks[k], k + 1);
     munmap(pool->board, sizeof *pool->board);
     remove_files(pool);
+    ask_for_overcommit(0);
     free(pool->entries.all);
 }
 
@@ -319,6 +320,14 @@ static void run_resize(struct pool *pool, const struct line *line)
     printf("%s = resized %ld", line->text, total);
 }
 
+/* Lets the kernel give so many surplus pages to who finds no free one, until the script's end. */
+static void run_overcommit(struct pool *pool, const struct line *line)
+{
+    ask_for_overcommit(line->frames);
+    pool->is_resized = true;
+    printf("%s = overcommits", line->text);
+}
+
 static void ask_all(struct pool *pool, const struct line *line)
 {
     for (unsigned k = 0; k < pool->script->tasks; k++) {
@@ -382,6 +391,9 @@ static void run_line(struct pool *pool, const struct line *line)
         break;
     case LINE_RESIZE:
         run_resize(pool, line);
+        break;
+    case LINE_OVERCOMMIT:
+        run_overcommit(pool, line);
         break;
     case LINE_RACE:
         run_race(pool, line);

@@ -289,6 +289,14 @@ static void read_resize(const struct reader *reader, const struct words *words, 
     line->frames = number(reader, words->all[1], MOST_FRAMES);
 }
 
+static void read_overcommit(const struct reader *reader, const struct words *words, struct line *line)
+{
+    if (words->count != 2)
+        bad(reader, "an overcommit is 'overcommit FRAMES'");
+    line->kind = LINE_OVERCOMMIT;
+    line->frames = number(reader, words->all[1], MOST_FRAMES);
+}
+
 /* The operations of a race's letters, a bit for each. */
 static uint64_t kinds_of(const struct reader *reader, const char *letters)
 {
@@ -378,6 +386,8 @@ static void read_call(struct reader *reader, const struct words *words, const ch
         read_wait(reader, words, &line);
     else if (!strcmp(words->all[0], "resize"))
         read_resize(reader, words, &line);
+    else if (!strcmp(words->all[0], "overcommit"))
+        read_overcommit(reader, words, &line);
     else if (!strcmp(words->all[0], "race"))
         read_race(reader, words, &line);
     else

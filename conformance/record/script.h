@@ -67,19 +67,19 @@ enum { RACE_SEED, RACE_CALLS, RACE_SPAN, RACE_KINDS };
 
 /* A call that is begun runs to its end, and so does one that is denied memory. One that is started goes on beside the lines that
  * follow, up to its task's wait; and one that is held stands in the kernel meanwhile, where it enters a function. */
-enum line_kind { LINE_BEGIN, LINE_DENY, LINE_START, LINE_HOLD, LINE_WAIT, LINE_RESIZE, LINE_RACE };
+enum line_kind { LINE_BEGIN, LINE_DENY, LINE_START, LINE_HOLD, LINE_WAIT, LINE_RESIZE, LINE_OVERCOMMIT, LINE_RACE };
 
 struct line {
     enum line_kind kind;
     /* the line as it is told, without an answer that stood behind it */
     char *text;
-    /* of all but LINE_RESIZE and LINE_RACE, counted from 1 */
+    /* of all but LINE_RESIZE, LINE_OVERCOMMIT and LINE_RACE, counted from 1 */
     unsigned task;
-    /* of all but LINE_WAIT and LINE_RESIZE */
+    /* of all but LINE_WAIT, LINE_RESIZE and LINE_OVERCOMMIT */
     struct call call;
     /* of LINE_HOLD: the names that the function has, with a bar between */
     char *functions;
-    /* of LINE_RESIZE */
+    /* of LINE_RESIZE and LINE_OVERCOMMIT */
     unsigned frames;
 };
 
