@@ -76,7 +76,67 @@ fn read_line<R: Source>(
     Ok(if last.is_empty() { None } else { Some(last) })
 }
 
+/// What was read and isn't answered yet, the words of a line, and what is laid out.
+#[derive(Drop)]
+struct Lines {
+    pending: Vec<u8>,
+    words: Vec<u8>,
+    text: String,
+}
+
+/// Answers the next line, if there is one. Tells whether more lines are read.
+fn answer_line<H: Files, R: Source, W: Sink>(
+    rt: &H,
+    alloc: Global,
+    reader: &mut R,
+    session: &mut Session,
+    lines: &mut Lines,
+    writer: &mut W,
+) -> Result<bool, ReplayFault>
+    ensures { TellsReads result (R.failures reader.old) (R.failures reader.new) }
+{
+    let Some(line) = read_line(alloc, reader, &mut lines.pending)? else {
+        return Ok(false);
+    };
+    lines.text.clear();
+    let goes_on = lay_answer(
+        rt,
+        alloc,
+        session,
+        line.as_slice(),
+        &mut lines.words,
+        &mut lines.text,
+    )?;
+    // Lines that are there already aren't asked for.
+    if goes_on && lines.pending.is_empty() {
+        session.push_prompt(&mut lines.text)?;
+    }
+    write_text(writer, lines.text.as_bytes())?;
+    Ok(goes_on)
+}
+
 /// Answers each line before the next is read.
+fn answer_lines<H: Files, R: Source, W: Sink>(
+    rt: &H,
+    alloc: Global,
+    reader: &mut R,
+    session: &mut Session,
+    lines: &mut Lines,
+    writer: &mut W,
+) -> Result<(), ReplayFault>
+    ensures { TellsReads result (R.failures reader.old) (R.failures reader.new) }
+{
+    session.push_first_prompt(&mut lines.text)?;
+    write_text(writer, lines.text.as_bytes())?;
+    for _ in 0..u64::MAX {
+        if !answer_line(rt, alloc, reader, session, lines, writer)? {
+            break;
+        }
+    }
+    Ok(())
+}
+
+/// Drives a pool by the lines that are read.
 fn step_lines<H: Files, R: Source, W: Sink>(
     rt: &H,
     alloc: Global,
@@ -86,35 +146,13 @@ fn step_lines<H: Files, R: Source, W: Sink>(
 ) -> Result<(), ReplayFault>
     ensures { TellsReads result (R.failures reader.old) (R.failures reader.new) }
 {
-    let mut pending = Vec::new(alloc);
-    let mut words = Vec::new(alloc);
-    let mut text = String::new(alloc);
     let mut session = Session::new(stepping.file, stepping.is_typed);
-    session.push_first_prompt(&mut text)?;
-    write_text(writer, text.as_bytes())?;
-    for _ in 0..u64::MAX {
-        let Some(line) = read_line(alloc, reader, &mut pending)? else {
-            return Ok(());
-        };
-        text.clear();
-        let goes_on = lay_answer(
-            rt,
-            alloc,
-            &mut session,
-            line.as_slice(),
-            &mut words,
-            &mut text,
-        )?;
-        // Lines that are there already aren't asked for.
-        if goes_on && pending.is_empty() {
-            session.push_prompt(&mut text)?;
-        }
-        write_text(writer, text.as_bytes())?;
-        if !goes_on {
-            return Ok(());
-        }
-    }
-    Ok(())
+    let mut lines = Lines {
+        pending: Vec::new(alloc),
+        words: Vec::new(alloc),
+        text: String::new(alloc),
+    };
+    answer_lines(rt, alloc, reader, &mut session, &mut lines, writer)
 }
 
 /// Drives a pool, line by line.

@@ -1,5 +1,5 @@
 use Rattle.std.proofs.Common.{◌≡◌}
-use Rattle.hp_pool_commands.proofs.stepping.step_lines.Given as goal
+use Rattle.hp_pool_commands.proofs.stepping.answer_lines.Given as goal
 
 -- no read has failed
 abbrev pub invariant-loop : goal.invariant-loop
