@@ -175,7 +175,7 @@ def faults_of_bundles() -> Iterator[tuple[str, object]]:
         answers = room / "answers"
         answers.mkdir()
         yield "no answers", subprocess.run([TOP / "kernel", "test", "--answers", answers], capture_output=True, check=False).returncode == 2
-        (answers / "fixed").write_bytes((TOP / "conformance" / "calls-fixed.txt").read_bytes())
+        (answers / "fixed").write_bytes(b"".join((TOP / "conformance" / name).read_bytes() for name in suites.SUITES["fixed"].files))
         ran = subprocess.run([TOP / "kernel", "test", "--answers", answers], capture_output=True, text=True, check=False)
         yield "answers of another machine", (ran.returncode, "0 new differences" in ran.stdout) == (0, True) or ran
         text = (answers / "fixed").read_text(encoding="utf-8")

@@ -244,7 +244,8 @@ def faults_of_ends() -> Iterator[tuple[str, object]]:
         found = judged_at_end(raced, f"total 4 free 4 resv {resv} surp 0", True).wrong
         yield f"behind races {resv}", [str(it.known or "new") for it in found] == [ends] or found
     recorded = [it for path in (TOP / "conformance").glob("calls-*.txt") for it in compare.scripts(path)]
-    yield "each recorded script tells its end", len(recorded) == 295 and all(map(endings.end_of, recorded))
+    recorded += compare.scripts(TOP / "conformance" / suites.PRIVATE)
+    yield "each recorded script tells its end", len(recorded) == 295 + 22 and all(map(endings.end_of, recorded))
 
 
 def faults_of_recorded_answers() -> Iterator[tuple[str, object]]:

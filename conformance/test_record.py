@@ -148,9 +148,9 @@ def faults_of_reading(recorder: Recorder) -> Iterator[tuple[object, object]]:
     recorder.text.write_text(POOL + "start 1 trunc 0 0\nwait 1\nend\n", encoding="utf-8")
     ended, said = recorder.run(str(recorder.text))
     yield "a started truncation", (ended, "which --race allows" in said) == (2, True) or said
-    for file in sorted([*FOLDER.glob("calls-*.txt"), *FOLDER.glob("races*.txt"), *FOLDER.glob("peers/*.txt")]):
+    for file in sorted([*FOLDER.glob("calls-*.txt"), FOLDER / "private.txt", *FOLDER.glob("races*.txt"), *FOLDER.glob("peers/*.txt")]):
         text = file.read_text()
-        scripts, lines = (len(re.findall(pattern, text, re.MULTILINE)) for pattern in (r"^script ", r"^(begin|start|wait|resize|race) "))
+        scripts, lines = (len(re.findall(pattern, text, re.MULTILINE)) for pattern in (r"^script ", r"^(begin|start|wait|resize|overcommit|race) "))
         yield file.name, recorder.run("--check", str(file)) == (0, f"{scripts} scripts, {lines} calls\n")
 
 

@@ -35,12 +35,14 @@ BY_COUNTS_ALONE = f"truncations, resizes; {NOT_BY_COUNTS}"
 # the suites whose schedules are forced
 HELD, DENIED, CHARGED = "held", "denied", "charged"
 # what no suite has
-NOWHERE = "private mappings, fork of a task that maps, mremap, userfaultfd, minimum sizes (min_size=), surplus pages (overcommit), \
-control groups, NUMA, migration, memory failures (poison), pages of other sizes (--page KIB)"
+NOWHERE = "private mappings, fork of a task that maps and surplus pages (overcommit) but for some calls one after another; mremap, \
+userfaultfd, minimum sizes (min_size=), control groups, NUMA, migration, memory failures (poison), pages of other sizes (--page KIB)"
+# what the machine doesn't have at all, as a kernel answered it
+PRIVATE = "private.txt"
 SUITES = {
     it.name: it
     for it in (
-        Suite("fixed", ("calls-fixed.txt",), f"{AT_ONCE}, quotas, resizes"),
+        Suite("fixed", ("calls-fixed.txt", PRIVATE), AT_ONCE),
         Suite("random", ("calls-random.txt",), f"{AT_ONCE}, quotas, resizes, lengths in bytes"),
         Suite("quota", ("calls-quota.txt",), f"{AT_ONCE}, resizes, lengths in bytes"),
         Suite("resize", ("calls-resize.txt",), f"{AT_ONCE}, quotas, lengths in bytes"),
@@ -91,7 +93,7 @@ def scripts_of(suite: Suite) -> list[Script]:
 
 def recorded_of(suite: Suite) -> dict[str, Script]:
     """The scripts of a suite with what was recorded of Debian's 6.1.192, by name, if its files have that."""
-    files = [FOLDER / name for name in suite.files if name.startswith("calls-")]
+    files = [FOLDER / name for name in suite.files if name.startswith("calls-") or name == PRIVATE]
     return {script.name: script for path in files for script in scripts(path)}
 
 
