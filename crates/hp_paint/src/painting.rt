@@ -1,7 +1,7 @@
 //! An output whose words are coloured.
 //!
 //! A word is a run of letters, digits, `_` and `-`. Only the last word is held back, until it ends; no line is.
-ghost use Rattle.std.specs.Prelude.{◌≡◌, ◌++◌, ◌∷◌, [], OnOk, IfOk, IfErr, IfSome, Some, Ok, Err, take};
+ghost use Rattle.std.specs.Prelude.{◌≡◌, ◌++◌, ◌∷◌, [], OnOk, IfOk, IfErr, IfSome, Some, None, Ok, Err, take};
 ghost use Rattle.std.specs.Io.{WritesAtMost};
 ghost use Rattle.std.specs.Io.KnownBytes.{Appends, Keeps, WriteAppends};
 ghost use Rattle.hp_paint.specs.Palettes.{shown};
@@ -134,6 +134,7 @@ impl<W: Write> Painted<W> {
         ensures out { painted_output result ≡ out }
         ensures palette { result.palette ≡ palette }
         ensures held { held_of result.held ≡ Short [] }
+        ensures failed { result.failed ≡ None }
     {
         Painted {
             out,
@@ -210,6 +211,7 @@ impl<W: Write> Write for Painted<W> {
             held_of self.new.held ≡ open_behind (held_of self.old.held) (take n buf.now))) }
         ensures palette { self.new.palette ≡ self.old.palette }
         ensures fails { IfSome self.old.palette (λ palette. IfErr result (λ error. self.new.failed ≡ Some error)) }
+        ensures succeeds { OnOk result (self.new.failed ≡ self.old.failed) }
         ensures stays { IfSome self.old.palette (λ palette. IfSome self.old.failed (λ error.
             (result ≡ Err error) × (self.new ≡ self.old))) }
     {
@@ -237,6 +239,7 @@ impl<W: Write> Write for Painted<W> {
         ensures held { IfSome self.old.palette (λ palette. OnOk result (held_of self.new.held ≡ Short [])) }
         ensures palette { self.new.palette ≡ self.old.palette }
         ensures fails { IfSome self.old.palette (λ palette. IfErr result (λ error. self.new.failed ≡ Some error)) }
+        ensures succeeds { OnOk result (self.new.failed ≡ self.old.failed) }
         ensures stays { IfSome self.old.palette (λ palette. IfSome self.old.failed (λ error.
             (result ≡ Err error) × (self.new ≡ self.old))) }
     {
