@@ -110,12 +110,15 @@ def weights() -> dict[str, tuple[float, float]]:
     return {name: (float(seconds), float(memory) * MIB) for name, seconds, memory in lines}
 
 
-def note_weights(proving: Proving) -> None:
-    """Notes what each proof from nothing took."""
-    known = weights() | {name: took for name, took in proving.took.items() if is_from_nothing(proving.logs, name)}
-    WEIGHTS[1].parent.mkdir(exist_ok=True)
-    lines = (f"{name} {seconds:.0f} {memory / MIB:.0f}\n" for name, (seconds, memory) in known.items())
-    WEIGHTS[1].write_text("".join(lines), encoding="utf-8")
+def prove(proving: Proving) -> None:
+    """Proves what is left, and notes what each proof from nothing took, also where the build is interrupted."""
+    try:
+        proving.prove()
+    finally:
+        known = weights() | {name: took for name, took in proving.took.items() if is_from_nothing(proving.logs, name)}
+        WEIGHTS[1].parent.mkdir(exist_ok=True)
+        lines = (f"{name} {seconds:.0f} {memory / MIB:.0f}\n" for name, (seconds, memory) in known.items())
+        WEIGHTS[1].write_text("".join(lines), encoding="utf-8")
 
 
 @contextlib.contextmanager
@@ -146,7 +149,7 @@ def prove_libraries(names: list[str], logs: Path, program: str = "") -> Proving:
     last = [it for it in proving.left if it.name == program]
     proving.left = [it for it in proving.left if it.name != program]
     with locked(rt, list(crates.values())):
-        proving.prove()
+        prove(proving)
     proving.left = last
     return proving
 
@@ -157,14 +160,13 @@ def prove_program(crate: str, logs: Path) -> None:
     program = proving.left.pop()
     jobs, log = proving.jobs_that_fit(program, proving.processors), logs / f"{program.name}.log"
     proving.follow(Run(program, jobs, begin(["rt", "run", "--jobs", str(jobs), "--", "--help"], program.folder, log), log))
-    proving.prove()
-    note_weights(proving)
+    prove(proving)
 
 
-def reporting(logs: Path, prove: Callable, *given) -> None:
-    """Does this, and shows what the prover said of what isn't proved, which stands in the logs."""
+def reporting(logs: Path, build: Callable, *given) -> None:
+    """Builds something, and shows what the prover said of what isn't proved, which stands in the logs."""
     try:
-        prove(*given, logs)
+        build(*given, logs)
     except NotProved as name:
         said = (logs / f"{name}.log").read_text(encoding="utf-8", errors="replace")
         raise BuildFailed(f"{said}hugepool: the build failed: {name} is not proved") from name
