@@ -3,6 +3,7 @@ ghost use Rattle.std.specs.Prelude.{◌≡◌};
 ghost use Rattle.std.specs.Option.{option_map};
 ghost use Rattle.hp_program.specs.Answers.{status_of_runs, status_of_text};
 ghost use Rattle.hp_script_commands.specs.Hunting.{status_of_hunt};
+ghost use Rattle.hp_command.specs.declared.request.ScriptRequest.TheVariants as script;
 ghost use Rattle.hugepool.specs.Requests.{Ends, EndsPool, EndsScript, EndsTrace};
 ghost use Rattle.hugepool.specs.Status.{status_at};
 
@@ -10,7 +11,9 @@ use crate::stop::{
     Missed, Stop, stop_of_audit, stop_of_every, stop_of_format, stop_of_hunt, stop_of_runs,
     stop_of_table, stop_of_text, stop_of_work,
 };
-use hp_command::{PoolRequest, Request, ScriptRequest, TraceRequest};
+use hp_command::{
+    EndingChoice, EveryBounds, EverySearch, PoolRequest, Request, ScriptRequest, TraceRequest,
+};
 use hp_picture_commands::{run_audit, run_state};
 use hp_pool_commands::{Stepping, WorkWords, run_step, run_trace_work, run_work};
 use hp_program::run_replay;
@@ -82,6 +85,57 @@ fn answer_trace<R: Source, W: Write + Drop>(
     }
 }
 
+// What is answered to a request for the table of all endings.
+fn answer_table<H: Clock + Threads + Sync, R: Source, W: Write + Drop>(
+    rt: &H,
+    alloc: Global,
+    bounds: EveryBounds,
+    reader: &mut R,
+    out: W,
+    faults: &mut impl Report,
+) -> (Result<(), Stop>, Option<W>)
+    ensures { EndsScript (script.ExploreEvery bounds) (status_at result.0) (R.remaining reader.old) (R.remaining reader.new)
+        (R.failures reader.old) (R.failures reader.new) (W.contents out) (option_map W.contents result.1) }
+{
+    let mut cut = None;
+    let (done, out) = run_explore_every(rt, alloc, bounds, reader, out, &mut cut, faults);
+    (stop_of_table(done, cut, Missed::Schedules), out)
+}
+
+// What is answered to a request for a schedule of one line of that table.
+fn answer_choice<H: Clock + Threads + Sync, R: Source, W: Write + Drop>(
+    rt: &H,
+    alloc: Global,
+    choice: EndingChoice,
+    reader: &mut R,
+    out: W,
+    faults: &mut impl Report,
+) -> (Result<(), Stop>, Option<W>)
+    ensures { EndsScript (script.ScheduleEvery choice) (status_at result.0) (R.remaining reader.old) (R.remaining reader.new)
+        (R.failures reader.old) (R.failures reader.new) (W.contents out) (option_map W.contents result.1) }
+{
+    let mut cut = None;
+    let (done, out) = run_schedule_every(rt, alloc, choice, reader, out, &mut cut, faults);
+    (stop_of_table(done, cut, Missed::Row), out)
+}
+
+// What is answered to a request for a search among all schedules.
+fn answer_search<H: Clock + Threads + Sync, R: Source, W: Write + Drop>(
+    rt: &H,
+    alloc: Global,
+    search: &EverySearch,
+    reader: &mut R,
+    out: W,
+    faults: &mut impl Report,
+) -> (Result<(), Stop>, Option<W>)
+    ensures { EndsScript (script.FindEvery search.now) (status_at result.0) (R.remaining reader.old) (R.remaining reader.new)
+        (R.failures reader.old) (R.failures reader.new) (W.contents out) (option_map W.contents result.1) }
+{
+    let mut cut = None;
+    let (met, out) = run_find_every(rt, alloc, search, reader, out, &mut cut, faults);
+    (stop_of_every(met, cut), out)
+}
+
 // What is answered to a request for something to be done with a script, or with a trace that a run of one left.
 fn answer_script<H: Clock + Threads + Wait + Sync, R: Source, W: Write + Drop>(
     rt: &H,
@@ -104,26 +158,20 @@ fn answer_script<H: Clock + Threads + Wait + Sync, R: Source, W: Write + Drop>(
             Missed::Ends,
         ),
         ScriptRequest::ExploreEvery(bounds) => {
-            let mut cut = None;
-            let (done, out) = run_explore_every(rt, alloc, bounds, reader, out, &mut cut, faults);
-            (stop_of_table(done, cut, Missed::Schedules), out)
+            answer_table(rt, alloc, bounds, reader, out, faults)
         }
         ScriptRequest::Schedule(scheduling) => {
             text(run_schedule(alloc, scheduling, reader, out, faults))
         }
         ScriptRequest::ScheduleEvery(choice) => {
-            let mut cut = None;
-            let (done, out) = run_schedule_every(rt, alloc, choice, reader, out, &mut cut, faults);
-            (stop_of_table(done, cut, Missed::Row), out)
+            answer_choice(rt, alloc, choice, reader, out, faults)
         }
         ScriptRequest::Find(search) => hunted(
             run_find(rt, alloc, &search, reader, out, faults),
             Missed::Runs(search.hunt.limit),
         ),
         ScriptRequest::FindEvery(search) => {
-            let mut cut = None;
-            let (met, out) = run_find_every(rt, alloc, &search, reader, out, &mut cut, faults);
-            (stop_of_every(met, cut), out)
+            answer_search(rt, alloc, &search, reader, out, faults)
         }
         ScriptRequest::Minimize(conditions) => hunted(
             run_minimize(rt, alloc, conditions.as_slice(), reader, out, faults),
