@@ -173,7 +173,7 @@ def front_fault(program: Path, words: str, row: Row) -> str | None:
     """What is wrong where an output has room for a part of what is written: as much of it, and the fault, has to come."""
     whole = (row.stdout if row.stdout is not None else run_row(program, words, row).out).encode()
     # (a negative number counts from the end)
-    for room in range(len(whole)) if row.room == "every" else (it % len(whole) for it in row.room):
+    for room in range(len(whole)) if row.room == "every" else (it if it >= 0 else len(whole) + it for it in row.room):
         front = replace(row, stdout=whole[:room].decode(errors="replace"))
         if wrong := fault(front, run_row(program, words, row, room)):
             return f"room for {room} bytes: {wrong}"
