@@ -61,7 +61,8 @@ class Run:
 
     def done(self, pace: float) -> float:
         """The seconds that are done, of what is known: as the prover says, or by the clock."""
-        return self.library.seconds * max(self.share(), min((time.monotonic() - self.began) / self.library.seconds / pace, MOST_DONE))
+        known = self.library.seconds
+        return max(known * self.share(), min((time.monotonic() - self.began) / pace, known * MOST_DONE))
 
     def memory(self) -> float:
         return self.library.memory * (1 + MORE_MEMORY * (self.jobs - 1))
