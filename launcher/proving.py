@@ -116,6 +116,8 @@ class Proving:
         self.runs: dict[int, Run] = {}
         # what each proof took: processor seconds, and the bytes of its largest process
         self.took: dict[str, tuple[float, int]] = {}
+        # of the proofs with several jobs that have ended, the seconds by the clock, and those that were known
+        self.clock = self.known = EXPECTED
         self.began, self.line = time.monotonic(), Line()
 
     def begin_ready(self) -> None:
@@ -150,6 +152,8 @@ class Proving:
                 SIGNALS.look()
                 raise NotProved(run.library.name)
             self.built.add(run.library.name)
+            if run.jobs > 1:
+                self.clock, self.known = self.clock + time.monotonic() - run.began, self.known + run.library.seconds
             self.took[run.library.name] = used.ru_utime + used.ru_stime, used.ru_maxrss * 1024
 
     def prove(self) -> None:
@@ -173,16 +177,14 @@ class Proving:
             run.process.wait()
 
     def seconds_left(self) -> float:
-        """The estimate: what is left at the rate so far; or the longest chain, if that takes longer. A library of a chain has several jobs
-        beside others, and takes about as long by the clock as it takes one processor."""
-        ended = [it for it in self.libraries if it.name in self.took]
-        pace = (EXPECTED + sum(self.took[it.name][0] for it in ended)) / (EXPECTED + sum(it.seconds for it in ended))
+        """The estimate: what is left at the rate so far; or the longest chain, if that takes longer, at the pace of those before, which had
+        several jobs, too."""
+        pace, ended = self.clock / self.known, sum(it.seconds for it in self.libraries if it.name in self.took)
         parts = {run.library.name: run.done(pace) for run in self.runs.values()}
         waiting = [it for it in self.libraries if it.name not in self.built]
         left = sum(it.seconds - parts.get(it.name, 0.0) for it in waiting)
-        done = sum(it.seconds for it in ended) + sum(parts.values())
         chain = max(it.chain - parts.get(it.name, 0.0) for it in waiting)
-        return max(left * (time.monotonic() - self.began) / max(done, 1.0), chain * pace)
+        return max(left * (time.monotonic() - self.began) / max(ended + sum(parts.values()), 1.0), chain * pace)
 
     def told(self) -> str:
         """How many crates are proved, how many functions of the others, and how many minutes are left."""
