@@ -1,11 +1,11 @@
 -- From layer to layer.
-use Rattle.std.proofs.Common.{arith, inl, inr, ◌≡◌, sym, ◌≤◌, ◌+◌, ◌∷◌, ◌⊎◌, [], ℕ, zero, suc, Bool, List, refl, subst, length, below_more}
+use Rattle.std.proofs.Common.{arith, inl, inr, ◌≡◌, sym, ◌<◌, ◌≤◌, ◌+◌, ◌∷◌, ◌⊎◌, [], ℕ, zero, suc, Bool, List, refl, subst, length, below_more}
 use Rattle.std.specs.Prelude.{slice_index_or}
 use Rattle.std.specs.List.{AllWithin}
 use Rattle.std.proofs.Math.Nat.{eq-or-lt_of_le}
 use Rattle.std.proofs.lemmas.Bool.{cases_lt}
 use Rattle.std.proofs.lemmas.List.Elements.{Contains-get_or, Contains-push_cases, Contains-push}
-use Rattle.hp_layers.specs.Layers.{AreKeysOf, AreNext, AreReached, AreValid, IsAsGood, IsCovered, IsCrowded, IsLayer, IsReached}
+use Rattle.hp_layers.specs.Layers.{AreKeysOf, AreNext, AreReached, AreValid, IsAsGood, IsCovered, IsCrowded, IsLayer, IsLong, IsReached}
 use Rattle.hp_layers.specs.Layers.{IsShortest, MeetsAt, NoneBefore}
 use Rattle.hp_layers.specs.Layers.{KeysStand, LacksRoom, NoneIsMet, NoneMeets}
 
@@ -55,6 +55,19 @@ pub none_before_next : {S : Type 0} (turn : S → S → Type 0) (meets : S → T
     → NoneMeets turn meets first n → NoneBefore turn meets first (n + 1)
 unfolding NoneBefore
 none_before_next turn meets first n before now = below_more (NoneMeets turn meets first) n before now
+
+-- no number of turns is below none
+pub long_first : {S : Type 0} (turn : S → S → Type 0) (first : S) → IsLong turn first 0
+unfolding IsLong
+long_first turn first m lt = absurd (omega (arith, lt))
+
+-- a layer that has a state is one number of turns more in which something is reached
+pub long_next : {S : Type 0} (turn alike : S → S → Type 0) (first : S) (n : ℕ) (layer : List S) → IsLayer turn alike first n layer
+    → 0 < length layer → IsLong turn first n → IsLong turn first (n + 1)
+unfolding IsLong
+long_next {S} turn alike first n layer l some long =
+    below_more (λ (m : ℕ). (s : S) × IsReached turn first m s) n long
+    (slice_index_or layer 0 first, l.reached _ (Contains-get_or layer 0 first some))
 
 -- behind a layer of no states nothing is reached
 pub ends : {S : Type 0} (turn alike : S → S → Type 0) (first : S) (n : ℕ) → IsLayer turn alike first n [] → (m : ℕ) → n ≤ m → (s : S)

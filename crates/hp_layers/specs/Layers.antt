@@ -123,10 +123,15 @@ pub record IsCrowded {S K : Type 0} (eq : K → K → Bool) (key_of : S → K) (
   pub behind : AreReached eq key_of turn first turns others
   pub many : limit < length some + length others
 
--- a search is cut where it has made as many turns as the limit, or where there are too many states; what it finds is found in fewer turns
+-- something is reached in each number of turns below that
+unfoldable pub IsLong : {S : Type 0} → (turn : S → S → Type 0) → (first : S) → (turns : ℕ) → Type 0
+IsLong {S} turn first n = (m : ℕ) → m < n → (s : S) × IsReached turn first m s
+
+-- A search is cut where it has made as many turns as the limit, and what it searches didn't end before, or where there are too many states.
+-- What it finds is found in fewer turns.
 unfoldable pub IsCutAtLimits : {S K : Type 0} → (eq : K → K → Bool) → (key_of : S → K) → (turn : S → S → Type 0) → (first : S) → Limits
     → Verdict S → Type 0
 IsCutAtLimits eq key_of turn first limits Never = Unit {0}
 IsCutAtLimits eq key_of turn first limits (Met s turns) = turns < limits.turns
 IsCutAtLimits eq key_of turn first limits (Cut turns) =
-    (turns ≡ limits.turns) ⊎ IsCrowded eq key_of turn first limits.states turns
+    ((turns ≡ limits.turns) × IsLong turn first turns) ⊎ IsCrowded eq key_of turn first limits.states turns

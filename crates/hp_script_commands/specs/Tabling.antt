@@ -8,6 +8,7 @@ use Rattle.hp_layers.specs.Weighed.{most}
 use Rattle.hp_layers.specs.declared.limits.Limits.{Limits}
 use Rattle.hp_every.specs.Search.{Question}
 use Rattle.hp_search.specs.Endings.{AreAllRows, AreTooMany}
+use Rattle.hp_search.specs.Searching.{AreLong}
 use Rattle.hp_search.specs.declared.endings.EndingRow.{EndingRow}
 use Rattle.hp_summary.specs.SummaryText.{call_text}
 use Rattle.hp_program.specs.Answers.{AnsweredHunt, OfScript}
@@ -62,13 +63,13 @@ pub record TabulatesPartly (b : EveryBounds) (from to before after : Option (Lis
 abbrev pub limits_of : EveryBounds → Limits
 limits_of b = record { turns = 1000000; states = b.states }
 
--- a script was read, and the limits ran out: schedules have a million turns, or more places with answers than may be looked at
+-- a script was read, and the limits ran out: schedules go on up to a million turns, or have more places with answers than may be looked at
 pub record IsCutShort (b : EveryBounds) (cut : Option ℕ) (from to : Option (List ℕ)) : Type 0 where
   pub script : Script
   pub turns : ℕ
   pub reads : ReadsScript from to (sizes script.config) script.calls.items script.waits.items
   pub at : cut ≡ Some turns
-  pub why : (turns ≡ 1000000) ⊎ AreTooMany (schedules_of b script) b.states turns
+  pub why : ((turns ≡ 1000000) × AreLong (schedules_of b script) turns) ⊎ AreTooMany (schedules_of b script) b.states turns
 
 -- the table of all endings of the script's schedules
 pub record IsTableText (b : EveryBounds) (script : Script) (text : List ℕ) : Type 0 where

@@ -7,7 +7,7 @@ use Rattle.std.proofs.lemmas.List.Elements.{Contains-get_or}
 use Rattle.std.proofs.lemmas.Map.Views.{list_any-from_Contains}
 use Rattle.hp_base.specs.declared.event.Event.{Event}
 use Rattle.hp_layers.specs.Ended.{AreCutAtLimits, AreShortest}
-use Rattle.hp_layers.specs.Layers.{AreReached, IsCrowded, IsReached}
+use Rattle.hp_layers.specs.Layers.{AreReached, IsCrowded, IsLong, IsReached}
 use Rattle.hp_layers.specs.declared.counting.RunCounts.{RunCounts}
 use Rattle.hp_layers.specs.declared.ending.EndingTable.{EndingTable}
 use Rattle.hp_layers.specs.declared.ending.EndingTable.TheVariants.{Whole, Cut}
@@ -17,8 +17,10 @@ use Rattle.hp_every.specs.Endings.{EndState, GoesOnBy, IsEndState}
 use Rattle.hp_every.specs.Search.{Question}
 use Rattle.hp_every.proofs.Answers.{turn_count}
 use Rattle.hp_every.proofs.Endings.{reached_so}
+use Rattle.hp_every.proofs.Good.{run_of}
 use Rattle.hp_every.proofs.Runs.{event_count}
 use Rattle.hp_search.specs.Endings.{AreEndKeysOf, AreRowsOf, AreTooMany}
+use Rattle.hp_search.specs.Searching.{AreLong}
 use Rattle.hp_search.specs.declared.endings.EndingRow.{EndingRow}
 
 -- ---- what the layers say of their limits
@@ -31,7 +33,7 @@ whole_within eq key_of turn first limits table counts is h = subst (AreCutAtLimi
 
 pub cut_within : {S K : Type 0} (eq : K → K → Bool) (key_of : S → K) (turn : S → S → Type 0) (first : S) (limits : Limits)
     (table : EndingTable S) (counts : RunCounts S) (n : ℕ) → table ≡ Cut counts n → AreCutAtLimits eq key_of turn first limits table
-    → (n ≡ limits.turns) ⊎ IsCrowded eq key_of turn first limits.states n
+    → ((n ≡ limits.turns) × IsLong turn first n) ⊎ IsCrowded eq key_of turn first limits.states n
 unfolding AreCutAtLimits
 cut_within eq key_of turn first limits table counts n is h = subst (AreCutAtLimits eq key_of turn first limits) is h
 
@@ -67,12 +69,22 @@ end_keys a first is empty n keys h = record {
       record { state = s.0; right = at.0; long = at.1; is = sym ((bytes_decides s.0.key key).0 s.2) });
 }
 
+-- a schedule has each number of turns in which something is reached
+long_ends : (a : Question) (first : EndState) → IsEndState a first → first.path.turns ≡ [] → (n : ℕ) → IsLong (GoesOnBy a) first n
+    → AreLong a n
+unfolding IsLong
+long_ends a first is empty n long m few =
+    let s = long m few in
+    let at = reached_so a first is empty m s.0 s.1 in
+    (s.0.path.turns, run_of a s.0.path at.0.path, at.1)
+
 -- a table that is cut is cut at its limits
 pub cut_at : (a : Question) (limits : Limits) (first : EndState) → IsEndState a first → first.path.turns ≡ [] → (n : ℕ)
-    → ((n ≡ limits.turns) ⊎ IsCrowded (pointwise nat_eq) (λ (s : EndState). s.key) (GoesOnBy a) first limits.states n)
-    → (n ≡ limits.turns) ⊎ AreTooMany a limits.states n
+    → (((n ≡ limits.turns) × IsLong (GoesOnBy a) first n)
+    ⊎ IsCrowded (pointwise nat_eq) (λ (s : EndState). s.key) (GoesOnBy a) first limits.states n)
+    → ((n ≡ limits.turns) × AreLong a n) ⊎ AreTooMany a limits.states n
 cut_at a limits first is empty n cut = elim cut [
-  | inl turns ↦ inl turns
+  | inl turns ↦ inl (turns.0, long_ends a first is empty n turns.1)
   | inr crowd ↦ inr (record {
     before = crowd.before;
     next = crowd.next;

@@ -10,7 +10,7 @@ use Rattle.hp_base.specs.declared.event.Event.{Event}
 use Rattle.hp_laws.proofs.Deciding.{clash}
 use Rattle.hp_core.specs.State.{CoreState}
 use Rattle.hp_watch.specs.Moments.{Moment, last_of}
-use Rattle.hp_layers.specs.Layers.{AreReached, IsCrowded, IsCutAtLimits, IsRight, IsShortest, NoneBefore, NoneMeets}
+use Rattle.hp_layers.specs.Layers.{AreReached, IsCrowded, IsCutAtLimits, IsLong, IsRight, IsShortest, NoneBefore, NoneMeets}
 use Rattle.hp_layers.specs.declared.limits.Limits.{Limits}
 use Rattle.hp_layers.specs.declared.verdict.Verdict.{Verdict}
 use Rattle.hp_layers.specs.declared.verdict.Verdict.TheVariants.{Never, Met, Cut}
@@ -24,10 +24,11 @@ use Rattle.hp_every.specs.Schedules.{Ends, IsFinal, MayTurn, Place, plan_for}
 use Rattle.hp_every.specs.Search.{AreBehind, GoesOn, HasTurns, IsPath, MayGoOn, MeetsHere, PathState, Question, search_key}
 use Rattle.hp_every.specs.Turns.{AreAllTurns}
 use Rattle.hp_every.proofs.Answers.{may_at, reached_path, turn_count}
+use Rattle.hp_every.proofs.Good.{run_of}
 use Rattle.hp_every.proofs.Runs.{event_count}
 use Rattle.hp_every.proofs.Sames.{last_core}
 use Rattle.hp_search.specs.declared.position.Position.{Position}
-use Rattle.hp_search.specs.Searching.{AreKeysOf, HasEvents, IsAt, IsTooMany, place_of}
+use Rattle.hp_search.specs.Searching.{AreKeysOf, AreLong, HasEvents, IsAt, IsTooMany, place_of}
 use Rattle.hp_search.proofs.Made.{has_at}
 
 -- ---- whether it meets all conditions
@@ -120,7 +121,7 @@ right_within eq key_of turn limits first s n v is h = subst (IsCutAtLimits eq ke
 
 pub right_cut_at : {S K : Type 0} (eq : K → K → Bool) (key_of : S → K) (turn : S → S → Type 0) (limits : Limits) (first : S) (n : ℕ)
     (v : Verdict S) → v ≡ Cut n → IsCutAtLimits eq key_of turn first limits v
-    → (n ≡ limits.turns) ⊎ IsCrowded eq key_of turn first limits.states n
+    → ((n ≡ limits.turns) × IsLong turn first n) ⊎ IsCrowded eq key_of turn first limits.states n
 unfolding IsCutAtLimits
 right_cut_at eq key_of turn limits first n v is h = subst (IsCutAtLimits eq key_of turn first limits) is h
 
@@ -153,12 +154,21 @@ keys_of a first path none n keys h = record {
       });
 }
 
+-- a schedule has each number of turns in which something is reached
+long_paths : (a : Question) (first : PathState) → IsPath a first → first.turns ≡ [] → (n : ℕ) → IsLong (GoesOn a) first n → AreLong a n
+unfolding IsLong
+long_paths a first path none n long m few =
+    let s = long m few in
+    let at = reached_path a first path none m s.0 s.1 in
+    (s.0.turns, run_of a s.0 at.0, at.1)
+
 -- a search that is cut is cut at its limits
 pub at_limit : (a : Question) (limits : Limits) (first : PathState) → IsPath a first → first.turns ≡ [] → (n : ℕ)
-    → ((n ≡ limits.turns) ⊎ IsCrowded (pointwise nat_eq) (λ (s : PathState). s.key) (GoesOn a) first limits.states n)
-    → (n ≡ limits.turns) ⊎ IsTooMany a limits.states n
+    → (((n ≡ limits.turns) × IsLong (GoesOn a) first n)
+    ⊎ IsCrowded (pointwise nat_eq) (λ (s : PathState). s.key) (GoesOn a) first limits.states n)
+    → ((n ≡ limits.turns) × AreLong a n) ⊎ IsTooMany a limits.states n
 at_limit a limits first path none n cut = elim cut [
-  | inl turns ↦ inl turns
+  | inl turns ↦ inl (turns.0, long_paths a first path none n turns.1)
   | inr crowd ↦ inr (record {
     before = crowd.before;
     next = crowd.next;

@@ -11,6 +11,7 @@ use Rattle.hp_every.specs.Endings.{EndState, Ended, EndsSo, HasEnding, IsEndStat
 use Rattle.hp_every.specs.Search.{HasTurns, Question}
 use Rattle.hp_layers.specs.declared.counting.RunCounts.{RunCounts}
 use Rattle.hp_layers.specs.declared.limits.Limits.{Limits}
+use Rattle.hp_search.specs.Searching.{AreLong}
 use Rattle.hp_search.specs.declared.endings.EndingRow.{EndingRow}
 use Rattle.hp_search.specs.declared.endings.EndingRows.{EndingRows}
 use Rattle.hp_search.specs.declared.endings.EndingRows.TheVariants.{Whole, Cut}
@@ -87,10 +88,11 @@ pub record AreTooMany (a : Question) (limit turns : ℕ) : Type 0 where
   pub behind : AreEndKeysOf a turns others
   pub many : limit < length some + length others
 
--- Each row has fewer events than the limit of turns. A table is cut at that limit, or where there are too many places and answers.
+-- Each row has fewer events than the limit of turns. A table is cut at that limit, up to which schedules go on, or where there are too many
+-- places and answers.
 unfoldable pub AreWithin : Question → Limits → EndingRows → Type 0
 AreWithin a limits (Whole rows) = All (λ row. length row.events.items < limits.turns) rows.items
-AreWithin a limits (Cut turns) = (turns ≡ limits.turns) ⊎ AreTooMany a limits.states turns
+AreWithin a limits (Cut turns) = ((turns ≡ limits.turns) × AreLong a turns) ⊎ AreTooMany a limits.states turns
 
 -- a table has all endings; or the limits ran out
 unfoldable pub AreAllEndings : Question → EndingRows → Type 0

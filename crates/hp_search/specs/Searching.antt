@@ -107,11 +107,16 @@ pub record IsTooMany (a : Question) (limit turns : ℕ) : Type 0 where
   pub behind : AreKeysOf a turns others
   pub many : limit < length some + length others
 
--- A schedule that is found has fewer turns than the limit. A search is cut at the limit of turns, or where there are too many places.
+-- a schedule has each number of turns below that
+abbrev pub AreLong : Question → (turns : ℕ) → Type 0
+AreLong a n = (m : ℕ) → m < n → (turns : List Turn) × HasTurns a turns × (length turns ≡ m)
+
+-- A schedule that is found has fewer turns than the limit. A search is cut at the limit of turns, up to which schedules go on, or where there
+-- are too many places.
 abbrev pub IsWithin : Question → Limits → Reachability → Type 0
 IsWithin a limits Never = Unit {0}
 IsWithin a limits (Met trace) = length trace.events.items < limits.turns
-IsWithin a limits (Cut turns) = (turns ≡ limits.turns) ⊎ IsTooMany a limits.states turns
+IsWithin a limits (Cut turns) = ((turns ≡ limits.turns) × AreLong a turns) ⊎ IsTooMany a limits.states turns
 
 -- What is said of all schedules: that none meets the conditions; or the events of a shortest that does; or that each that does has
 -- at least so many.

@@ -5,11 +5,11 @@ use Rattle.std.specs.Map.{lookup}
 use Rattle.std.proofs.lemmas.Grind.{common_steps}
 use Rattle.std.proofs.lemmas.List.{nil_from_length}
 use Rattle.hp_layers.specs.Ended.{AreCutAtLimits, AreRight, HasEndings, has_place}
-use Rattle.hp_layers.specs.Layers.{AreKeysOf, IsLayer}
+use Rattle.hp_layers.specs.Layers.{AreKeysOf, IsLayer, IsLong}
 use Rattle.hp_layers.specs.Named.{AreAllTold, AreTold}
 use Rattle.hp_layers.proofs.Covering.{first_keys}
 use Rattle.hp_layers.proofs.Indexing.{none_indexed}
-use Rattle.hp_layers.proofs.Layering.{crowded, ends, first_layer, layer_valid, next_is_layer}
+use Rattle.hp_layers.proofs.Layering.{crowded, ends, first_layer, layer_valid, long_first, long_next, next_is_layer}
 use Rattle.hp_layers.proofs.Seating.{places_stand}
 use Rattle.hp_layers.proofs.Spreading.{AreSpread, no_run_left, spread_first, spread_next, told_first, told_more}
 use Rattle.hp_layers.proofs.Taking.{all_ended, ended_before, has_before_first, has_before_next, none_shortest, shortest_next}
@@ -49,6 +49,7 @@ loop-turns-init g c =
             (first_keys g.M.Key.PartialEq.eq key_of first key_eq.laws.symm),
       );
       spread = spread_first step alike first _ states ns itself;
+      goes_on = long_first turn first;
       told = told_first turn alike step first (ends_so.are_named m) good.onward itself eq ending (ends_so.ends_alike m)
           c.no_counts-counts.result c.no_counts-counts.ensures.states c.no_counts-counts.ensures.ways;
     }
@@ -150,6 +151,7 @@ loop-turns-preserved g c =
     let n = c.loop-turns.turns in
     let layer = c.loop-turns.layer in
     let itself = good.itself c.args.first c.requires in
+    let some : 0 < length layer.states.items = grind (arith, common_steps, c.if-is_empty.false, c.if-is_empty.ensures) in
     let next : suc n ≡ n + 1 = omega arith in
     record {
       layer = subst (λ (k : ℕ). IsLayer turn alike c.args.first k c.in-Some.next.states.items) next
@@ -166,6 +168,7 @@ loop-turns-preserved g c =
       spread = subst (λ (k : ℕ). AreSpread step alike c.args.first k c.in-Some.next) next
           (spread_next turn alike step c.args.first (ends_so.are_named m) good.onward itself n layer c.in-Some.next was.even was.spread
           (rw c.in-Some.is at c.in_ok-next.ensures.goes));
+      goes_on = long_next turn alike c.args.first n layer.states.items was.layer some was.goes_on;
       told = told_more turn alike step c.args.first (ends_so.are_named m) good.onward itself eq ending (ends_so.ends_alike m) n before
           after layer c.loop-turns.counts c.take_counts.new.table was.even was.spread took.ways took.indexed was.told took.long;
     }
@@ -189,5 +192,5 @@ returns g c =
         was.shortest,
       );
       counted = subst (λ (k : ℕ). AreTold (g.M.Ends.step m) ending c.args.first k c.loop-turns.counts) e was.told;
-      cut = inl refl;
+      cut = inl (refl, subst (IsLong turn c.args.first) e was.goes_on);
     }

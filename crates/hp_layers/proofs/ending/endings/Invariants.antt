@@ -2,7 +2,7 @@ use Rattle.std.proofs.Common.{◌≡◌, List, length}
 use Rattle.std.specs.Prelude.{Some}
 use Rattle.std.specs.HashMap.{get}
 use Rattle.hp_layers.specs.Ended.{AreShortest, has_place}
-use Rattle.hp_layers.specs.Layers.{AreKeysOf, IsLayer}
+use Rattle.hp_layers.specs.Layers.{AreKeysOf, IsLayer, IsLong}
 use Rattle.hp_layers.specs.Named.{AreTold, IsIndexed}
 use Rattle.hp_layers.proofs.Spreading.{AreSpread}
 use Rattle.hp_layers.proofs.Taking.{HasBefore}
@@ -20,5 +20,6 @@ invariant-loop-turns g l = record {
       (has_place (get g.M.Ending.PartialEq.eq l.places)) l.turns;
   keys : (keys : List _) × AreKeysOf g.M.Key.PartialEq.eq (g.M.Turns.key_of l.system) keys l.layer.states.items;
   spread : AreSpread (g.M.Ends.step l.system) (g.M.Turns.alike l.system) l.fn.first l.turns l.layer;
+  goes_on : IsLong (g.M.Turns.turn l.system) l.fn.first l.turns;
   told : AreTold (g.M.Ends.step l.system) (g.M.Ends.ending_of l.system) l.fn.first l.turns l.counts;
 }

@@ -1,9 +1,9 @@
-use Rattle.std.proofs.Common.{arith, ◌≡◌, ◌∙◌, sym, ◌++◌, ◌∷◌, [], ℕ, suc, ◌+◌, ◌≤◌, inl, inr, refl, subst, List, length}
+use Rattle.std.proofs.Common.{arith, ◌≡◌, ◌∙◌, sym, ◌++◌, ◌∷◌, [], ℕ, suc, ◌+◌, ◌<◌, ◌≤◌, inl, inr, refl, subst, List, length}
 use Rattle.std.proofs.lemmas.List.{nil_from_length}
-use Rattle.hp_layers.specs.Layers.{AreKeysOf, AreNext, AreValid, IsCutAtLimits, IsLayer, IsRight, LacksRoom, MeetsAt, NoneBefore, NoneIsMet}
+use Rattle.hp_layers.specs.Layers.{AreKeysOf, AreNext, AreValid, IsCutAtLimits, IsLayer, IsLong, IsRight, LacksRoom, MeetsAt, NoneBefore, NoneIsMet}
 use Rattle.hp_layers.proofs.Covering.{first_keys}
-use Rattle.hp_layers.proofs.Layering.{crowded, first_layer, layer_misses, layer_valid, never, next_is_layer, none_before_first}
-use Rattle.hp_layers.proofs.Layering.{none_before_next, shortest}
+use Rattle.hp_layers.proofs.Layering.{crowded, first_layer, layer_misses, layer_valid, long_first, long_next, never, next_is_layer}
+use Rattle.hp_layers.proofs.Layering.{none_before_first, none_before_next, shortest}
 use Rattle.hp_layers.proofs.searching.search.Goals as goal
 
 pub loop-turns-init : goal.loop-turns-init
@@ -25,6 +25,7 @@ loop-turns-init g c =
             (sym (c.in_ok-push.ensures.items ∙ (λ i. c.new-layer.ensures.items i ++ c.args.first ∷ [])))
             (first_keys g.M.Key.PartialEq.eq key_of c.args.first key_eq.laws.symm),
       ),
+      long_first turn c.args.first,
     )
 
 pub returns-then-is_empty : goal.returns-then-is_empty
@@ -85,6 +86,7 @@ loop-turns-preserved g c =
     let meets = g.M.Turns.meets c.args.system.now in
     let good = turns.as_good c.args.system.now in
     let n = c.loop-turns.turns in
+    let some : 0 < length c.loop-turns.layer.items = grind (arith, c.if-is_empty.false, c.if-is_empty.ensures) in
     let next : suc n ≡ n + 1 = omega arith in (
       subst (λ (k : ℕ). IsLayer turn alike c.args.first k c.in-Some-2.next.items) next
           (next_is_layer (g.M.Turns.valid c.args.system.now) turn alike meets c.args.first n c.loop-turns.layer.items
@@ -96,6 +98,7 @@ loop-turns-preserved g c =
           c.loop-turns.invariant.0
           (subst (λ (l : List _). NoneIsMet meets l) c.deref.ensures.value (c.in_default.ensures.none refl))),
       rw c.in-Some-2.is at c.in_ok-next.ensures.keys,
+      long_next turn alike c.args.first n c.loop-turns.layer.items c.loop-turns.invariant.0 some c.loop-turns.invariant.3,
     )
 
 pub returns : goal.returns
@@ -105,7 +108,7 @@ returns g c =
     record {
       right = subst (NoneBefore (g.M.Turns.turn c.args.system.now) (g.M.Turns.meets c.args.system.now) c.args.first) e
           c.loop-turns.invariant.1;
-      cut = inl refl;
+      cut = inl (refl, subst (IsLong (g.M.Turns.turn c.args.system.now) c.args.first) e c.loop-turns.invariant.3);
     }
 
 pub next_layer-requires-clause-layer : goal.next_layer-requires-clause-layer

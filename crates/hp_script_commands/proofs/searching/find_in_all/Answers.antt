@@ -3,7 +3,7 @@ use Rattle.std.proofs.KnownBytes.{Keeps-refl}
 use Rattle.hp_every.specs.Schedules.{IsShortest, NoScheduleMeets, ScheduleMeets}
 use Rattle.hp_every.specs.Search.{Question}
 use Rattle.hp_layers.specs.declared.limits.Limits.{Limits}
-use Rattle.hp_search.specs.Searching.{IsTooMany}
+use Rattle.hp_search.specs.Searching.{AreLong, IsTooMany}
 use Rattle.std.specs.Prelude.{◌⊎◌}
 use Rattle.hp_hunt.specs.declared.condition.Condition.{Condition}
 use Rattle.hp_script_commands.proofs.Searched.{answer_cut, answer_met, answer_never, finds_every, finds_every_short, within_cut}
@@ -72,7 +72,8 @@ returns-clause-ok g c =
         script = a.script;
         reads = c.in_ok-script.ensures.ok;
         none = subst (λ (cs : List Condition). ((moments : List Moment) → ScheduleMeets a.script a.denials a.kills cs moments → turns ≤ length moments)
-            × ((turns ≡ 1000000) ⊎ IsTooMany (record a { conditions = cs }) limits.states turns)) c.as_slice-conditions.ensures.value (none, at);
+            × (((turns ≡ 1000000) × AreLong (record a { conditions = cs }) turns) ⊎ IsTooMany (record a { conditions = cs }) limits.states turns))
+            c.as_slice-conditions.ensures.value (none, at);
       },
       Keeps-refl _,
     )
