@@ -41,7 +41,7 @@ module _ (from to before mid after : Option (List ℕ)) (kept : Keeps mid after)
   some_kept : (fault : LooseFault) → NotFormatted fault from to before mid → Keeps before after ⊎ FormatsPartly from to before after
   some_kept (Stream fault) (inl none) = inl (Keeps-trans before mid after none kept)
   some_kept (Stream fault) (inr (is, part)) = inr (part_kept part)
-  some_kept (Line number why) none = inl (Keeps-trans before mid after none kept)
+  some_kept (Line number why) (wrong, none) = inl (Keeps-trans before mid after none kept)
 
   held : (formatted : Result (Unit {0}) LooseFault) → OnOk formatted (Formats from to before mid)
       → IfErr formatted (λ fault. NotFormatted fault from to before mid) → Keeps before after ⊎ FormatsPartly from to before after
@@ -64,7 +64,7 @@ module _ (from to before mid after : Option (List ℕ)) (kept : Keeps mid after)
       (reads, some_kept (Stream kind) stopped)
   answered old new (Err (Line number why)) answer (Ok x) done stopped reads is not =
       subst (λ (r : Result (Unit {0}) LooseFault). AnsweredFormat r from to old new before (Some after)) (sym is)
-      (reads, Keeps-trans before mid after stopped kept)
+      (reads, stopped.0, Keeps-trans before mid after stopped.1 kept)
 
 pub answered_format : {E : Type 0} (from to : Option (List ℕ)) (old new : ℕ) (start before mid after : Option (List ℕ))
     (formatted answer : Result (Unit {0}) LooseFault) (flushed : Result (Unit {0}) E) → start ≡ before

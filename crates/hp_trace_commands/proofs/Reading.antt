@@ -4,9 +4,11 @@ use Rattle.std.proofs.lemmas.List.{append-nil}
 use Rattle.std.specs.Io.KnownBytes.{Consumes, IsAtEnd}
 use Rattle.hp_base.specs.Text.{Sizes}
 use Rattle.hp_base.specs.declared.event.Event.{Event}
-use Rattle.hp_format.specs.Loose.{IsLoose, IsRun, ReadsLoose, ReadsRun}
+use Rattle.hp_format.specs.Loose.{IsFaultRead, IsLoose, IsRun, IsWrongAt, ReadsLoose, ReadsRun}
+use Rattle.hp_format.specs.declared.fault.LooseFault.{LooseFault}
+use Rattle.hp_format.specs.declared.fault.LooseFault.TheVariants.{Stream, Line}
 use Rattle.hp_text.specs.Traces.{trace_text}
-use Rattle.hp_trace_commands.specs.Strict.{IsTraceOf}
+use Rattle.hp_trace_commands.specs.Strict.{IsFaultIn, IsTraceOf}
 
 -- what was consumed up to the end is the whole text
 whole : (text : List ℕ) (left : Option (List ℕ)) (read : List ℕ) → Consumes (Some text) left read → IsAtEnd left → read ≡ text
@@ -23,3 +25,8 @@ trace_of text strict left sizes events loose run is = record {
   run = subst (λ (t : List ℕ). IsRun t sizes events) (whole text left run.text run.reads run.all) run.run;
   is = is;
 }
+
+pub fault_in : (text : List ℕ) (left : Option (List ℕ)) (fault : LooseFault) → IsFaultRead (Some text) left fault → IsFaultIn text fault
+fault_in text left (Stream fault) read = tt
+fault_in text left (Line number why) read =
+    subst (λ (t : List ℕ). IsWrongAt t number why) (whole text left read.text read.reads read.all) read.wrong

@@ -1,6 +1,7 @@
 -- What comes of `hugepool format`.
 use Rattle.std.specs.Prelude.{◌≡◌, ◌⊎◌, ℕ, List, Option, Result, Ok, Err, MatchResult}
 use Rattle.std.specs.Io.KnownBytes.{Appends, Keeps}
+use Rattle.hp_format.specs.Loose.{ReadsWrong}
 use Rattle.hp_format.specs.declared.fault.LooseFault.{LooseFault}
 use Rattle.hp_format.specs.declared.fault.LooseFault.TheVariants.{Stream, Line}
 use Rattle.hp_program.specs.Answers.{IfThere}
@@ -22,10 +23,11 @@ pub record FormatsPartly (from to before after : Option (List ℕ)) : Type 0 whe
   pub reads : ReadsStrict from to strict
   pub wrote : Wrote before after strict
 
--- Nothing is written before the whole text is read: so where it is at fault, or couldn't be read, nothing was written
+-- Nothing is written before the whole text is read: so where it is at fault, or couldn't be read, nothing was written. A fault of a line is
+-- that of the first wrong one
 abbrev pub NotFormatted : LooseFault → (from to before after : Option (List ℕ)) → Type 0
 NotFormatted (Stream fault) from to before after = Keeps before after ⊎ (IsWriteFault fault × FormatsPartly from to before after)
-NotFormatted (Line number why) from to before after = Keeps before after
+NotFormatted (Line number why) from to before after = ReadsWrong from to number why × Keeps before after
 
 -- a fault of reading is answered where a read failed, and nowhere else
 abbrev pub ReaderAtLoose : LooseFault → (old new : ℕ) → Type 0
@@ -39,7 +41,8 @@ TellsFormat result old new = MatchResult result (λ _. new ≡ old) (λ fault. R
 abbrev pub AnsweredFormat : Result (Unit {0}) LooseFault → (from to : Option (List ℕ)) → (old new : ℕ) → (before : Option (List ℕ))
     → (after : Option (Option (List ℕ))) → Type 0
 AnsweredFormat (Ok x) from to old new before after = (new ≡ old) × IfThere after (λ held. Formats from to before held)
-AnsweredFormat (Err (Line number why)) from to old new before after = (new ≡ old) × IfThere after (λ held. Keeps before held)
+AnsweredFormat (Err (Line number why)) from to old new before after =
+    (new ≡ old) × ReadsWrong from to number why × IfThere after (λ held. Keeps before held)
 AnsweredFormat (Err (Stream fault)) from to old new before after =
     ReaderAt fault old new × IfThere after (λ held. Keeps before held ⊎ FormatsPartly from to before held)
 

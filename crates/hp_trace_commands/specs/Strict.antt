@@ -4,8 +4,10 @@ use Rattle.std.specs.List.{starts_with}
 use Rattle.std.specs.Io.KnownBytes.{Consumes, IsAtEnd}
 use Rattle.hp_base.specs.Text.{Sizes}
 use Rattle.hp_base.specs.declared.event.Event.{Event}
-use Rattle.hp_format.specs.Loose.{IsLoose, IsRun}
+use Rattle.hp_format.specs.Loose.{IsLoose, IsRun, IsWrongAt}
 use Rattle.hp_format.specs.Tidy.{tidy}
+use Rattle.hp_format.specs.declared.fault.LooseFault.{LooseFault}
+use Rattle.hp_format.specs.declared.fault.LooseFault.TheVariants.{Stream, Line}
 use Rattle.hp_text.specs.TextLines.{lines_of}
 use Rattle.hp_text.specs.Traces.{trace_text}
 
@@ -35,6 +37,11 @@ pub record IsTraceOf (text strict : List ℕ) : Type 0 where
 abbrev pub IsStrictOf : (text strict : List ℕ) → Type 0
 IsStrictOf text strict =
     (is_script text ≡ true) × (strict ≡ plain_lines (lines_of text)) ⊎ (is_script text ≡ false) × IsTraceOf text strict
+
+-- a fault of a line is that of the first wrong line of the text
+abbrev pub IsFaultIn : (text : List ℕ) → LooseFault → Type 0
+IsFaultIn text (Stream fault) = Unit {0}
+IsFaultIn text (Line number why) = IsWrongAt text number why
 
 -- the reader's bytes, to their end, were a text that asks for it
 pub record ReadsStrict (from to : Option (List ℕ)) (strict : List ℕ) : Type 0 where
