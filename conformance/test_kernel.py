@@ -391,7 +391,7 @@ def faults_of_report() -> Iterator[tuple[str, object]]:
     others = (replace(new, version="", lines=LEAKING), replace(CASES[3], version=""))
     version, answered = parsed("".join(map(recording, (new, *others))))
     found = Tested("made", version, [Comparison(PROGRAM, version, known_issues()).result(it) for it in answered])
-    yield "the table", report.table([found])[1].split()[:8] == ["made", "3", "6", "4", "2", "2", "1", "1"] or report.table([found])
+    yield "the table", report.table([found])[1].split()[:9] == ["made", "3", "6", "4", "0", "2", "2", "1", "1"] or report.table([found])
     text = report.text([found], "x")
     answers = ("kernel:  noframe | 0 0 | 1 1, 0 0 | 0 | used 3", "machine: noframe | 0 0 | 1 1, 0 0 | 0 | used 1")
     yield "both answers of the new one alone", all(it in text for it in answers) and "used 2" not in text or text
@@ -559,7 +559,7 @@ def faults_of_minimizing() -> Iterator[tuple[str, object]]:
     script, three = Script("a", "pool 2 1 1 1 3", four), ("begin 1 mapn 0 1 2", "begin 1 map 0 0 2", "begin 1 load 1")
     near, far = ({tuple(it.lines) for it in some(script)} for some in (shrinking.neighbours, minimize.farther))
     yield "two changes at once", three in far and three not in near
-    yield "a suite has its scripts", len(suites.scripts_of(suites.SUITES["fixed"])) == 33
+    yield "a suite has its scripts", len(suites.scripts_of(suites.SUITES["fixed"])) == 33 + 22
 
 
 def problem_of(call: Callable[[], object]) -> str:
