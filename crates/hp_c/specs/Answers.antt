@@ -1,5 +1,5 @@
 -- What an export answers of a pool.
-use Rattle.std.specs.Prelude.{◌≡◌, ◌⊎◌, ℕ, zero, suc, Bool, false, Option, Some, None, IsSomeAnd, is_some}
+use Rattle.std.specs.Prelude.{◌≡◌, ◌⊎◌, ℕ, zero, suc, Bool, true, false, Option, Some, None, IsSomeAnd, is_some}
 use Rattle.hp_base.specs.Text.{Sizes, are_sizes, sizes}
 use Rattle.hp_base.specs.declared.config.Config.{Config}
 use Rattle.hp_base.specs.declared.event.Event.{Event}
@@ -25,9 +25,9 @@ pub record Opened (z : Sizes) (held : Option CoreState) : Type 0 where
   pub sizes_are : sizes config ≡ z
   pub opens : IsSomeAnd held (IsOpening config)
 
--- there was no memory, or there is no pool of these sizes
+-- there was no memory for a pool of these sizes, or there is none
 abbrev pub IsOpenRefused : Sizes → (code : ℕ) → Type 0
-IsOpenRefused z code = (code ≡ no_memory) ⊎ (code ≡ no_such) × (are_sizes z ≡ false)
+IsOpenRefused z code = (code ≡ no_memory) × (are_sizes z ≡ true) ⊎ (code ≡ no_such) × (are_sizes z ≡ false)
 
 -- ---- copy
 
@@ -41,10 +41,12 @@ pub record Copied (held copy : Option CoreState) : Type 0 where
   pub config : config_of copied ≡ config_of core
   pub rest : calls_of copied ≡ 0
 
--- the pool is closed, there was no memory, or a call is in flight
+-- the pool is closed, there was no memory for a copy of it, or a call is in flight
 abbrev pub IsCopyRefused : (held : Option CoreState) → (code : ℕ) → Type 0
 IsCopyRefused held code =
-    (code ≡ is_closed) × (held ≡ None) ⊎ (code ≡ no_memory) ⊎ (code ≡ in_flight) × IsSomeAnd held (λ core. calls_of core ≡ 0 → ⊥)
+    (code ≡ is_closed) × (held ≡ None)
+    ⊎ (code ≡ no_memory) × IsSomeAnd held (λ core. calls_of core ≡ 0)
+    ⊎ (code ≡ in_flight) × IsSomeAnd held (λ core. calls_of core ≡ 0 → ⊥)
 
 -- ---- event
 

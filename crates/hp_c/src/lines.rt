@@ -1,5 +1,5 @@
 //! One line of a trace as numbers, and numbers as a line.
-ghost use Rattle.std.specs.Prelude.{◌≡◌, ◌⊎◌, ⊤, Some, None, IfErr, IfOk, length, string_bytes};
+ghost use Rattle.std.specs.Prelude.{◌≡◌, ◌⊎◌, ⊤, Some, None, IfErr, IfOk, IsSome, length, string_bytes};
 ghost use Rattle.std.specs.Option.{option_map};
 ghost use Rattle.hp_base.specs.Text.{event_text};
 ghost use Rattle.hp_machine.specs.Text.{outcome_text};
@@ -53,7 +53,8 @@ pub extern "C" fn hugepool_read_event(line: &[u8], event: &mut EventWords) -> u3
 /// The event's line, or the code for which there is none.
 fn event_line(alloc: Global, event: &EventWords) -> Result<String, u32>
     ensures ok { IfOk result (λ text. option_map event_text (event_named event.now) ≡ Some (string_bytes text)) }
-    ensures err { IfErr result (λ code. (code ≡ no_memory) ⊎ (code ≡ no_such) × (event_named event.now ≡ None)) }
+    ensures err { IfErr result (λ code. (code ≡ no_memory) × IsSome (option_map event_text (event_named event.now))
+        ⊎ (code ≡ no_such) × (event_named event.now ≡ None)) }
 {
     // The checker of borrows asks for a mention of the type that an event may hold.
     let _none: Option<Op> = None;
@@ -70,7 +71,8 @@ fn event_line(alloc: Global, event: &EventWords) -> Result<String, u32>
 /// The line of the outcome that numbers name.
 fn outcome_line(alloc: Global, outcome: &OutcomeWords) -> Result<String, u32>
     ensures ok { IfOk result (λ text. option_map outcome_text (outcome_named outcome.now) ≡ Some (string_bytes text)) }
-    ensures err { IfErr result (λ code. (code ≡ no_memory) ⊎ (code ≡ no_such) × (outcome_named outcome.now ≡ None)) }
+    ensures err { IfErr result (λ code. (code ≡ no_memory) × IsSome (option_map outcome_text (outcome_named outcome.now))
+        ⊎ (code ≡ no_such) × (outcome_named outcome.now ≡ None)) }
 {
     // The checker of borrows asks for a mention of the type that an outcome may hold.
     let _none: Option<Answer> = None;
