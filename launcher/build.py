@@ -30,7 +30,7 @@ from typing import Callable, Iterator
 
 import building
 from building import BuildFailed, Interrupted, Line, SIGNALS, TOP, say
-from proving import Library, NotProved, Proving, Run, begin, is_from_nothing, with_chains
+from proving import Library, NotProved, Proving, begin, with_chains
 
 # seconds that each took to compile without proof on an idle machine (2026-11-28)
 SECONDS = {"replay": 25, "hugepool": 80}
@@ -115,9 +115,8 @@ def prove(proving: Proving) -> None:
     try:
         proving.prove()
     finally:
-        known = weights() | {name: took for name, took in proving.took.items() if is_from_nothing(proving.logs, name)}
         WEIGHTS[1].parent.mkdir(exist_ok=True)
-        lines = (f"{name} {seconds:.0f} {memory / MIB:.0f}\n" for name, (seconds, memory) in known.items())
+        lines = (f"{name} {seconds:.0f} {memory / MIB:.0f}\n" for name, (seconds, memory) in (weights() | proving.took).items())
         WEIGHTS[1].write_text("".join(lines), encoding="utf-8")
 
 
@@ -158,8 +157,8 @@ def prove_program(crate: str, logs: Path) -> None:
     """Proves and builds the libraries side by side, and has the toolchain prove the program over them, and build it."""
     proving = prove_libraries([crate], logs, crate)
     program = proving.left.pop()
-    jobs, log = proving.jobs_that_fit(program, proving.processors), logs / f"{program.name}.log"
-    proving.follow(Run(program, jobs, begin(["rt", "run", "--jobs", str(jobs), "--", "--help"], program.folder, log), log))
+    jobs = proving.jobs_that_fit(program, proving.processors)
+    proving.follow(begin(["rt", "run", "--jobs", str(jobs), "--", "--help"], program, jobs, logs))
     prove(proving)
 
 

@@ -52,6 +52,8 @@ class Run:
     jobs: int
     process: subprocess.Popen
     log: Path
+    # whether nothing was kept of it in its own folder
+    is_first: bool
     began: float = field(default_factory=time.monotonic)
 
     def share(self) -> float:
@@ -88,23 +90,18 @@ def jobs_of(ready: list[Library], active: list[Library], left: list[Library], pr
     return {it.name: max(1, processors // urgent) if is_urgent(it) else 1 for it in ready}
 
 
-def begin(words: list[str], folder: str, log: Path) -> subprocess.Popen:
-    with open(log, "wb") as out:
-        return subprocess.Popen(words, cwd=folder, stdin=subprocess.DEVNULL, stdout=out, stderr=subprocess.STDOUT)
-
-
-def start(library: Library, jobs: int, folder: Path) -> Run:
+def begin(words: list[str], library: Library, jobs: int, folder: Path) -> Run:
     """Begins to prove a library. What the prover prints goes to a file of the folder."""
-    log = folder / f"{library.name}.log"
-    words = [sys.executable, str(ONE), "one", library.folder, str(jobs)]
-    return Run(library, jobs, begin(words, library.folder, log), log)
+    log, is_first = folder / f"{library.name}.log", not Path(library.folder, "out", "incremental").exists()
+    with open(log, "wb") as out:
+        process = subprocess.Popen(words, cwd=library.folder, stdin=subprocess.DEVNULL, stdout=out, stderr=subprocess.STDOUT)
+    return Run(library, jobs, process, log, is_first)
 
 
-def is_from_nothing(logs: Path, name: str) -> bool:
-    """Whether a proof began with nothing that was kept, so that what it took is what a first one takes."""
-    log = logs / f"{name}.log"
-    said = log.read_text(encoding="utf-8", errors="replace") if log.is_file() else BEGUN_WITH_KEPT
-    return IS_PROVED in said and BEGUN_WITH_KEPT not in said
+def is_from_nothing(run: Run) -> bool:
+    """Whether a proof began with nothing that was kept, here or in a copy, so that what it took is what a first one takes."""
+    said = run.log.read_text(encoding="utf-8", errors="replace")
+    return run.is_first and IS_PROVED in said and BEGUN_WITH_KEPT not in said
 
 
 class Proving:
@@ -113,8 +110,9 @@ class Proving:
     def __init__(self, libraries: list[Library], built: set[str], processors: int, memory: float, logs: Path) -> None:
         self.libraries, self.built, self.processors, self.memory, self.logs = libraries, built, processors, memory, logs
         self.left = [it for it in libraries if it.name not in built]
+        self.whole = sum(it.seconds for it in self.left)
         self.runs: dict[int, Run] = {}
-        # what each proof took: processor seconds, and the bytes of its largest process
+        # what each proof from nothing took: processor seconds, and the bytes of its largest process
         self.took: dict[str, tuple[float, int]] = {}
         # of the proofs with several jobs that have ended, the seconds by the clock, and those that were known
         self.clock = self.known = EXPECTED
@@ -128,7 +126,7 @@ class Proving:
             fit = self.jobs_that_fit(it, jobs[it.name])
             if len(self.runs) < self.processors and fit:
                 self.left.remove(it)
-                self.follow(start(it, fit, self.logs))
+                self.follow(begin([sys.executable, str(ONE), "one", it.folder, str(fit)], it, fit, self.logs))
 
     def jobs_that_fit(self, library: Library, most: int) -> int:
         """So many jobs of a library fit into the memory that the others leave; one does where nothing else runs."""
@@ -154,7 +152,8 @@ class Proving:
             self.built.add(run.library.name)
             if run.jobs > 1:
                 self.clock, self.known = self.clock + time.monotonic() - run.began, self.known + run.library.seconds
-            self.took[run.library.name] = used.ru_utime + used.ru_stime, used.ru_maxrss * 1024
+            if is_from_nothing(run):
+                self.took[run.library.name] = used.ru_utime + used.ru_stime, used.ru_maxrss * 1024
 
     def prove(self) -> None:
         """Proves all that is left. Whatever ends it, no process is left behind."""
@@ -179,12 +178,12 @@ class Proving:
     def seconds_left(self) -> float:
         """The estimate: what is left at the rate so far; or the longest chain, if that takes longer, at the pace of those before, which had
         several jobs, too."""
-        pace, ended = self.clock / self.known, sum(it.seconds for it in self.libraries if it.name in self.took)
+        pace = self.clock / self.known
         parts = {run.library.name: run.done(pace) for run in self.runs.values()}
         waiting = [it for it in self.libraries if it.name not in self.built]
         left = sum(it.seconds - parts.get(it.name, 0.0) for it in waiting)
         chain = max(it.chain - parts.get(it.name, 0.0) for it in waiting)
-        return max(left * (time.monotonic() - self.began) / max(ended + sum(parts.values()), 1.0), chain * pace)
+        return max(left * (time.monotonic() - self.began) / max(self.whole - left, 1.0), chain * pace)
 
     def told(self) -> str:
         """How many crates are proved, how many functions of the others, and how many minutes are left."""
