@@ -245,7 +245,7 @@ def faults_of_ends() -> Iterator[tuple[str, object]]:
         yield f"behind races {resv}", [str(it.known or "new") for it in found] == [ends] or found
     recorded = [it for path in (TOP / "conformance").glob("calls-*.txt") for it in compare.scripts(path)]
     recorded += compare.scripts(TOP / "conformance" / suites.PRIVATE)
-    yield "each recorded script tells its end", len(recorded) == 295 + 22 and all(map(endings.end_of, recorded))
+    yield "each recorded script tells its end", len(recorded) == 295 + 23 and all(map(endings.end_of, recorded))
 
 
 def faults_of_recorded_answers() -> Iterator[tuple[str, object]]:
@@ -559,7 +559,7 @@ def faults_of_minimizing() -> Iterator[tuple[str, object]]:
     script, three = Script("a", "pool 2 1 1 1 3", four), ("begin 1 mapn 0 1 2", "begin 1 map 0 0 2", "begin 1 load 1")
     near, far = ({tuple(it.lines) for it in some(script)} for some in (shrinking.neighbours, minimize.farther))
     yield "two changes at once", three in far and three not in near
-    yield "a suite has its scripts", len(suites.scripts_of(suites.SUITES["fixed"])) == 33 + 22
+    yield "a suite has its scripts", len(suites.scripts_of(suites.SUITES["fixed"])) == 33 + 23
 
 
 def problem_of(call: Callable[[], object]) -> str:
