@@ -32,7 +32,7 @@ void make_call(struct desk *desk, struct files files)
 /* File 0 is mapped from page 0 on, file 1 from page 10 on, further than a race's span. */
 const struct mapping *mapping_of(const struct desk *desk, uint64_t page)
 {
-    static const struct mapping first = {.base = 0, .first = 0, .pages = SPAN}, second = {.base = 10, .first = 0, .pages = 10, .file = LONG_FILE};
+    static const struct mapping first = {.pages = SPAN}, second = {.base = 10, .pages = 10, .file = LONG_FILE};
 
     (void)desk;
     return page < SPAN ? &first : page >= 10 && page < 20 ? &second : NULL;
