@@ -191,7 +191,7 @@ def mutants(gate: Gate, words: list[str]) -> bool:
 
 def library(gate: Gate) -> bool:
     """Has the library for C proved and built, over libraries that are proved side by side."""
-    built = gate.run(command("launcher/build.py libraries hp_c"), "the libraries below hp_c", True)
+    built = gate.run(command("launcher/launch.py libraries hp_c"), "the libraries below hp_c", True)
     return built and gate.run(["env", f"--chdir={TOP / 'crates' / 'hp_c'}", "rt", "lib"], "the library for C")
 
 

@@ -131,7 +131,7 @@ def try_crates(top: Path, names: Iterable[str]) -> Iterator[Trial]:
 
 def build_libraries(names: Iterable[str]) -> bool:
     """Has the libraries below these crates proved and built, where they aren't. A crate's own proof comes with its mutants."""
-    words = [sys.executable, str(TOP / "launcher" / "build.py"), "libraries", *names]
+    words = [sys.executable, str(TOP / "launcher" / "launch.py"), "libraries", *names]
     return subprocess.run(words, stdin=subprocess.DEVNULL).returncode == 0
 
 

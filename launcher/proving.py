@@ -17,7 +17,7 @@ from typing import Iterable
 
 from building import Line, SIGNALS
 
-ONE = Path(__file__).with_name("build.py")
+ONE = Path(__file__).with_name("launch.py")
 # the seconds by which an urgent library's chain may be shorter than the longest
 SLACK = 15.0
 # what another job adds to the memory of the first, since it is a copy that shares most of it

@@ -35,7 +35,7 @@ HEADER = TOP / "library" / "include" / "hugepool.h"
 CRATE = TOP / "crates" / "hp_c"
 ARCHIVE = CRATE / "out" / "libhp_c.a"
 sys.path.insert(0, str(TOP / "launcher"))
-import prove  # noqa: E402
+import launch  # noqa: E402
 
 TARGET = "wasm64-unknown-unknown"
 COMPILES = [f"--target={TARGET}", "-mbulk-memory", "-Wall", "-Wextra", "-Werror"]
@@ -124,7 +124,7 @@ def keeping(room: Path, tools: Path) -> Path:
 
 def prove_again(room: Path, tools: Path) -> str:
     """Has the library proved over what is kept of its proof, and compiled by the compiler that keeps the module; what was printed."""
-    rt = prove.load()
+    rt = launch.load()
     crate = rt.rtlib.Crate(str(CRATE), str(TOP), {})
     if not ARCHIVE.is_file() or not all(it.is_built() for it in crate.below()):
         raise Failed("page: the library isn't proved and built yet: run library/archive.py")
@@ -268,7 +268,7 @@ def main(words: list[str]) -> int:
         return 127
     try:
         build(Path(words[0]) if words else TOP / "dist" / "hugepool.html")
-    except (Failed, prove.Unusable) as why:
+    except Failed as why:
         print(why, file=sys.stderr)
         return 1
     return 0

@@ -1,10 +1,10 @@
 #!/usr/bin/env python3
 """Builds a program and runs it: without proof, or proved, with the libraries that it stands on side by side.
 
-usage: build.py unproved CRATE MOMENT SOURCES [WORD ..]    what ./hugepool does where nothing was proved yet
-       build.py proved CRATE MOMENT SOURCES WORD ..        what ./hugepool build does
-       build.py libraries CRATE ..                         proves and builds the libraries that these crates stand on
-       build.py one FOLDER JOBS                            proves and builds one library, over libraries that are built
+usage: launch.py unproved CRATE MOMENT SOURCES [WORD ..]    what ./hugepool does where nothing was proved yet
+       launch.py proved CRATE MOMENT SOURCES WORD ..        what ./hugepool build does
+       launch.py libraries CRATE ..                         proves and builds the libraries that these crates stand on
+       launch.py one FOLDER JOBS                            proves and builds one library, over libraries that are built
 
 `rt try` compiles a program without proof, with checks at run time, runs it once and removes it. While the program runs, it lies in a
 folder below TMPDIR. A hard link to it, taken then, keeps it as out/unproved. The name of that file is not documented.
