@@ -210,9 +210,19 @@ async function tryFiles() {
     it.files = files.files; it.dispatchEvent(new Event("change"));`);
   await expect("a file that is opened", isAt(1, 1));
   if (kind.name !== "Chromium") return; // (the other one keeps a script of a test from the page's own functions)
-  const saved = await browser.run(`new Promise((done) => { const made = URL.createObjectURL; URL.createObjectURL = (blob) => { blob.text().then(done); return made.call(URL, blob); };
-    document.getElementById("save").click(); URL.createObjectURL = made; })`);
-  await expect("a file that is saved", `${JSON.stringify(saved)} === ${JSON.stringify("pool 2 1 4 1\nbegin 1 map 0 0 1\n")}`);
+  const saved = (button) => browser.run(`new Promise((done) => { const made = URL.createObjectURL; URL.createObjectURL = (blob) => { blob.text().then(done); return made.call(URL, blob); };
+    document.getElementById("${button}").click(); URL.createObjectURL = made; })`);
+  await expect("a file that is saved", `${JSON.stringify(await saved("save"))} === ${JSON.stringify("pool 2 1 4 1\nbegin 1 map 0 0 1\n")}`);
+  await open("#two-maps-one-lock@5");
+  const script = await saved("save-script");
+  await expect("a script of its begins alone", `${JSON.stringify(script)} === ${JSON.stringify("pool 4 1 4 2\nbegin 1 map 0 0 2\nbegin 2 map 0 1 3\n")}`);
+}
+
+/** Commands that search all orders of the calls are for the files that are saved. */
+async function trySearches() {
+  await open("#two-maps-one-lock@5");
+  await browser.click("#searching summary");
+  await expect("commands that search", `${text("#searches")}.includes("hugepool explore --every two-maps-one-lock.script")`);
 }
 
 /** Two schedules of one script, side by side. */
@@ -314,7 +324,7 @@ async function tryRoles() {
 const asked = process.env.TRIES?.split(" ").map((it) => `try${it}`);
 await inBrowsers(async (...it) => {
   [browser, kind] = it;
-  const all = [tryMoves, tryPicture, tryEvents, tryFields, tryTexts, tryPlaying, tryAddresses, tryFiles, tryBeside, tryLong, tryRoles, tryMissing, tryLooks];
+  const all = [tryMoves, tryPicture, tryEvents, tryFields, tryTexts, tryPlaying, tryAddresses, tryFiles, trySearches, tryBeside, tryLong, tryRoles, tryMissing, tryLooks];
   for (const tries of all.filter((one) => !asked || asked.includes(one.name))) await tries();
   const wrong = await browser.complaints(address);
   wrong.forEach((complaint) => console.log(`page: ${kind.name}: ${complaint}`));

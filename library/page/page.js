@@ -35,6 +35,7 @@ function showTrace(kept) {
   setRows(list, Math.min(trace.lines.length, MOST_EVENTS + 2), Math.max(0, kept - 1));
   showFault();
   showText();
+  showSearches();
   forgetTexts();
   showBeside();
   $("state").hidden = $("picture-part").hidden = !library.run;
