@@ -61,9 +61,13 @@ TOUCHES, LOCKING = ("store 1 6", "store 2 6"), ("alloc 0 1 3", "map 0 0 5", "pun
 # truncations beside which no count may be lost: to nothing, which waits for each call but a touch, and to the size behind a touch
 TRUNCATIONS = {"alloc": "trunc 0 0", "map": "trunc 0 0", "punch": "trunc 0 0", "store": "trunc 0 4"}
 CUTTABLE = ("reserved", "placed")
+# a punch beside calls that it waits for, which takes a reserved index out of the map, and a page, if it doesn't wait
+PUNCH = "punch 0 1 1"
 # where a truncation is held, and what is made meanwhile: it waits, or it touches a page below the new size
 CUTTING = ("removal", "deletion", "freeing")
 CUT, UNCUT = "trunc 0 2", ("store 1 6", "alloc 0 1 3", "map 0 0 5", "punch 0 1 1")
+# a touch of a page that the truncation has taken off: the size is lowered already, so it lies beyond
+ABOVE, BEYOND = "store 3 6", "wait 2 = beyond"
 # where a truncation may take off a page that is touched, if it is reserved and if it isn't: the touch asks the reserve map only then, or has
 # committed what the map answered. The reservations of another file, which are counted meanwhile, keep the count above zero
 WIDER_POOL, KEPT = "pool 16 2 8 2 16", "begin 1 map 1 0 3"
@@ -81,6 +85,10 @@ TABLES = ("begin 1 load 4", "begin 1 punch 0 4 1")
 DENIED = ("store 1 5", "store 3 5", "load 0", "alloc 0 0 3", "alloc 0 3 2", "map 0 0 4", "map 0 1 1")
 DENIED += ("punch 0 1 1", "punch 0 3 1", "unmap 0")
 ALLOCATIONS = 6
+# a private mapping of task 1, from virtual page 5 on: what is there before a touch of its page 6, and that touch. It copies the page of
+# the file where that was read before
+PRIVATE, OWN = "begin 1 xprivate 0 0 8388608", {"own": (), "own.copied": ("begin 2 store 1 7", "begin 1 load 6")}
+OWN_TOUCH, OWN_AFTER = "store 6 5", ("begin 1 store 6 7", "begin 1 load 5", "begin 1 xunmap 5 8388608", "begin 2 map 0 0 5")
 
 
 def script(name: str, setting: str, lines: tuple[str, ...], pool: str = POOL) -> Script:
@@ -98,11 +106,15 @@ def held() -> Iterator[Script]:
             continue
         others = (TOUCHES[0], *LOCKING) if kind_of(first) == "store" else TOUCHES
         others += (TRUNCATIONS[kind_of(first)],) if setting in CUTTABLE else ()
+        others += (PUNCH,) if setting in CUTTABLE and kind_of(first) != "store" else ()
         for at, other in enumerate(others, 1):
             yield script(f"held.{place.name}.{setting}.{number}.{at}", setting, beside(place, first, other))
     for place, setting, (at, other) in product(PLACES, (*CUTTABLE, "allocated"), enumerate(UNCUT, 1)):
         if place.name in CUTTING:
             yield script(f"held.{place.name}.{setting}.cut.{at}", setting, beside(place, CUT, other))
+    for place, setting in product(PLACES, (*CUTTABLE, "allocated")):
+        if place.name in CUTTING:
+            yield script(f"held.{place.name}.{setting}.above", setting, (hold(place, CUT), f"start 2 {ABOVE}", "wait 2", "wait 1"))
     for first, place in product(RECOVERED, PLACES):
         if place.name in RECOVERED[first]:
             lines = (KEPT, hold(place, first), "start 2 trunc 0 0", "wait 2", "wait 1", "begin 2 trunc 0 0", "begin 1 trunc 1 0")
@@ -128,6 +140,13 @@ def denied() -> Iterator[Script]:
     for setting, (at, call), first, more in product(SETTINGS, enumerate(DENIED, 1), range(1, ALLOCATIONS + 1), (0, 1)):
         lines = (f"deny {first}-{first + more} 1 {call}", "begin 2 map 0 0 5", "begin 2 load 1")
         yield script(f"denied.{setting}.{at}.{first}-{first + more}", setting, lines)
+    for name, first, more in product(OWN, range(1, ALLOCATIONS + 1), (0, 1)):
+        yield own(f"denied.{name}.{first}-{first + more}", name, f"deny {first}-{first + more}")
+
+
+def own(name: str, setting: str, denial: str) -> Script:
+    """A touch of a private mapping that is denied memory, then another one of it, and the mapping goes."""
+    return script(name, "bare", (PRIVATE, *OWN[setting], f"{denial} 1 {OWN_TOUCH}", *OWN_AFTER))
 
 
 def charged() -> Iterator[Script]:
@@ -135,11 +154,14 @@ def charged() -> Iterator[Script]:
     for (setting, before), (at, call) in product(EMPTY.items(), enumerate(POOR, 1)):
         lines = (*TABLES, *before, f"deny charged 1 {call}", "begin 2 map 0 0 5", "begin 2 load 1", "begin 2 load 2")
         yield script(f"charged.{setting}.{at}", "bare", lines)
+    yield from (own(f"charged.{name}", name, "deny charged") for name in OWN)
 
 
 # the lines of a script whose schedule is forced, and what they are answered where the kernel can do so
 FORCED = ("hold ", "deny ")
 CANNOT = ("started", "refused nodenial")
+# the answer of a wait for which a hold didn't last
+RAN_OUT = " = ranout"
 # what no call may be answered where the pool is ample, unless it is denied memory
 ODD = re.compile(r"(?!deny )[^=]* = (?:noframe|errno|segv|beyond|bus)|.*DISAGREE")
 
@@ -148,8 +170,15 @@ def has_force(script: Script) -> bool:
     return any(line.startswith(FORCED) for line in script.lines)
 
 
+def ran_out(script: Script) -> bool:
+    """Whether a hold of a recorded script ended before what was to happen meanwhile had happened, each time that it was made."""
+    return any(line.partition(" | ")[0].endswith(RAN_OUT) for line in script.lines)
+
+
 def was_forced(script: Script) -> bool:
-    """Whether a call of a recorded script was held, or might be denied memory."""
+    """Whether a call of a recorded script was held for as long as it had to be, or might be denied memory."""
+    if ran_out(script):
+        return False
     lines = [line for line in script.lines if line.startswith(FORCED)]
     return any(not line.partition(" = ")[2].startswith((*CANNOT, "passed")) for line in lines)
 
@@ -161,7 +190,9 @@ def cannot(script: Script) -> bool:
 
 def oddities(script: Script) -> list[str]:
     """What a recorded script has against its kernel beside wrong counts: answers, and used pages at the end."""
-    odd = [line.partition(" | ")[0] for line in script.lines if ODD.match(line)]
+    is_above = script.name.endswith(".above")
+    odd = [line.partition(" | ")[0] for line in script.lines if ODD.match(line) and not (is_above and line == BEYOND)]
+    odd += [it for it in script.lines if is_above and not (cannot(script) or ran_out(script)) and it.startswith("wait 2") and it != BEYOND]
     used = re.search(r"\| used (-?\d+)$", script.lines[-1])
     is_leak = used is not None and used[1] != "0"
     return odd + ([f"at the end, where no page is left, {used[1]} are used of the quota"] if is_leak else [])

@@ -1,7 +1,8 @@
 #!/usr/bin/env python3
 """Tests what forces schedules, and what brings a test elsewhere, as far as that needs no kernel.
 
-Scripts whose calls are held or denied memory: that the recorder reads them, and that answers which only a wrong kernel gives are new.
+Scripts whose calls are held or denied memory: that the recorder reads them, that answers which only a wrong kernel gives are new, and
+that a hold which ran out is said, and never passes for one that lasted.
 A made-up QEMU (test_console.py) is ended in each way. KTAP, bundles and reproducers in C are made of made-up results.
 """
 from __future__ import annotations
@@ -43,6 +44,11 @@ ODD = (
 DENIED = ("deny 2-3 1 store 3 5 = noframe | 16 0 | 5 0 | 0 0 | used 0", "begin 1 trunc 0 0 = done | 16 0 | 0 0 | 0 0 | used 0")
 # what a kernel that can't force answers
 VAIN = ("hold region_add 1 store 3 5 = started", "deny 1-1 1 store 3 5 = refused nodenial | 16 0 | 5 0 | 0 0 | used 0")
+# a hold that ran out at its first try, and one that did so at each; the last line is what stands behind a whole script
+FIRST_TRY = (*FINE[:2], "wait 2 = ranout", *FINE[3:])
+END = "end total 16 free 16 resv 0 surp 0"
+KERNEL = "# 6.1.0-56-cloud-amd64 #1 SMP Debian 6.1.192-2 (2026-11-16)"
+HELD = Script("h", HEADER, [line.partition(" = ")[0] for line in FINE])
 SIGNALS = (signal.SIGTERM, signal.SIGHUP, signal.SIGINT, signal.SIGKILL)
 LEAK = ("# 7.3-cloud #1 SMP Debian 7.3~rc7-1 x", "script a", "pool 1 1 4 2 4", "begin 1 mapn 0 0 2 = mapped 0 | 1 0 | 2 0 | 0 0 | used 0",
         "begin 2 store 0 1 = segv | 1 0 | 2 0 | 0 0 | used 0", "begin 1 exit = done | 1 0 | 2 0 | 0 0 | used 0",
@@ -88,7 +94,7 @@ def faults_of_scripts() -> Iterator[tuple[str, object]]:
             yield f"{suite}: each is forced", all(map(forced.has_force, some))
             yield f"{suite}: truncated at its end", all(it.lines[-1] == forced.END for it in some)
             off = [it.name for it in some if takes_a_touched_page_off(it)]
-            yield f"{suite}: no truncation takes off what is touched beside it, but where that is recovered", off == [it.name for it in some if ".recovered." in it.name] or off
+            yield f"{suite}: no truncation takes off what is touched beside it, but where that is recovered, or beyond", off == [it.name for it in some if re.search(r"\.(?:recovered\.|above$)", it.name)] or off
         cut = ["hold region_add 1 store 2 5", "start 2 trunc 0 2", "wait 2", "wait 1"]
         yield "a touched page is taken off", takes_a_touched_page_off(Script("a", HEADER, cut))
         yield "a page below the size isn't", not takes_a_touched_page_off(Script("a", HEADER, [cut[0].replace("store 2", "store 1"), *cut[1:]]))
@@ -103,6 +109,9 @@ def faults_of_answers() -> Iterator[tuple[str, object]]:
     for at, line, said in ODD:
         found = wrong((*FINE[:at], line, *FINE[at + 1 :]))
         yield line, said in found or found
+    for answer, expected in (("beyond", "right"), ("done", "wait 2 = done")):
+        above = Script("a.above", HEADER, [FINE[0], FINE[1], f"wait 2 = {answer}", *FINE[3:]])
+        yield f"above the size: {answer}", forced.oddities(above) == [] if expected == "right" else forced.oddities(above) == [expected]
     recorded = [Script("f", HEADER, [line]) for line in (FINE[0], DENIED[0], *VAIN)]
     yield "what was forced", [forced.was_forced(it) for it in recorded] == [True, True, False, False]
     yield "what can't be forced", [forced.cannot(it) for it in recorded] == [False, False, True, True]
@@ -116,6 +125,35 @@ def faults_of_vain() -> Iterator[tuple[str, object]]:
         answers = [f"hold region_add 1 load 0 = {answer}", f"{forced.END} = done | 16 0 | 0 0 | 0 0 | used 0"]
         following.follow([Script(it.name, HEADER, answers) for it in some], float("inf"))
         yield f"calls that are {answer}", len(following.results) == made or following.results
+
+
+def held_on(lines: list[str], *words: str) -> tuple[int, str]:
+    """How ./kernel test ends where a made-up machine answers so to a script with a hold, and what it prints."""
+    told = (f"record: 1 scripts recorded, {len(lines)} lines", "status 0")
+    status, out, said = test_console.command_on(test_console.Machine(recorded=tuple(lines), told=told, stays=False), *words, some=(("held.txt", [HELD]),))
+    return status, out or said
+
+
+def faults_of_holds() -> Iterator[tuple[str, object]]:
+    """That a hold which ran out at each try is no verdict, that one which lasted at the second try is, and that a wrong count is one anyhow."""
+    head = ("script h", HEADER)
+    lasted, tried, in_vain = (*head, *FINE, END), (*head, *FIRST_TRY, "again"), (*head, *FIRST_TRY, END)
+    status, out = held_on([KERNEL, *lasted])
+    yield "a hold that lasted", (status, out.splitlines()[-1]) == (0, "kernel: 0 new differences") or (status, out)
+    status, out = held_on([KERNEL, *tried, *tried, *lasted])
+    yield "a hold that lasted at the third try", (status, out.splitlines()[-1], "ran out" in out) == (0, "kernel: 0 new differences", False) or (status, out)
+    for words, expected in (((), 2), (("--bisect",), 125)):
+        status, out = held_on([KERNEL, *tried, *in_vain], *words)
+        last = "kernel: not judged: the holds of 1 scripts ran out, and nothing else is new"
+        yield f"a hold that ran out at each try {words}", (status, out.splitlines()[-1], "\n  held.txt: h\n" in out) == (expected, last, True) or (status, out)
+    wrong = [line.replace("14 0 |", "14 15 |") for line in in_vain]
+    status, out = held_on([KERNEL, *wrong])
+    yield "a wrong count behind a hold that ran out", (status, "found:    14 free, 15 reserved" in out) == (1, True) or (status, out)
+    ran_out = Script("h", HEADER, list(FIRST_TRY))
+    yield "it was not forced", (forced.ran_out(ran_out), forced.was_forced(ran_out), forced.ran_out(Script("h", HEADER, list(FINE)))) == (True, False, False)
+    found = testing.judged(Comparison(test_console.MACHINE.program, "6.1", known_issues()), testing.Work("made", [HELD], True), [ran_out])
+    yield "KTAP of it", "ok 1 h # SKIP its hold ran out" in ktap.text([found]) or ktap.text([found])
+    yield "JUnit of it", '<skipped message="its hold ran out"' in report.junit_text([found]) or report.junit_text([found])
 
 
 def begun(room: Path) -> subprocess.Popen[bytes]:
@@ -185,7 +223,7 @@ def faults_of_bundles() -> Iterator[tuple[str, object]]:
 
 
 def main() -> int:
-    parts = (faults_of_scripts, faults_of_answers, faults_of_vain, faults_of_endings, faults_of_ktap, faults_of_c, faults_of_bundles)
+    parts = (faults_of_scripts, faults_of_answers, faults_of_vain, faults_of_holds, faults_of_endings, faults_of_ktap, faults_of_c, faults_of_bundles)
     return tally.ended("forced", parts)
 
 

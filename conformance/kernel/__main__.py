@@ -40,7 +40,8 @@ ABOUT = """Finds the calls in which a Linux kernel differs from the machine of t
   ./kernel bundle to.tar                                       the recorder and the scripts, for another machine
   ./kernel known                                               the known issues
 """
-AFTER = """Status: 0 no new difference; 1 new differences, even if a later suite could not run; 2 could not run (125 with --bisect).
+AFTER = """Status: 0 no new difference; 1 new differences, even if a later suite could not run; 2 could not run, or could not hold a call
+for as long as another one took (125 with --bisect).
 Fetched kernels are kept in KIRVESSA_CACHE (~/.cache/kirvessa). Without /dev/kvm the processor is emulated, and a suite takes
 about a minute. conformance/README.md describes the suites, the scripts and the known issues."""
 # the configuration that suffices for all suites
@@ -148,6 +149,11 @@ def kernel_of(options: argparse.Namespace) -> Kernel:
     return kernels.emulated(Path(options.kernel), options.kernel, how)
 
 
+def cannot(options: argparse.Namespace) -> int:
+    """The status of a command that can't run, or of a kernel that can't be judged."""
+    return CANNOT_JUDGE if getattr(options, "bisect", False) else CANNOT_RUN
+
+
 def run_test(options: argparse.Namespace) -> int:
     """Tests a kernel suite by suite; each is one boot, or more where races leave wrong counts."""
     if options.config:
@@ -181,7 +187,7 @@ def run_test(options: argparse.Namespace) -> int:
         say(words_of(why))
     finally:
         run.report()
-    return 1 if run.new else 0
+    return 1 if run.new else cannot(options) if run.ran_out else 0
 
 
 @dataclass
@@ -195,6 +201,11 @@ class Running:
     new: int = 0
     # by which peers' assertions were told to be broken
     causes: frozenset[Cause] = frozenset()
+
+    @property
+    def ran_out(self) -> int:
+        """How many scripts show nothing, since a hold ended too early."""
+        return sum(len(it.ran_out) for it in self.found)
 
     @property
     def is_first(self) -> bool:
@@ -220,6 +231,8 @@ class Running:
     def last(self) -> str:
         """The last line. Where not all suites ran, no line may pass for a verdict that the kernel is right."""
         new = f"{self.new} new difference{'' if self.new == 1 else 's'}"
+        if self.ran_out and not self.new:
+            return f"not judged: the holds of {self.ran_out} scripts ran out, and nothing else is new"
         if len(self.found) == self.suites:
             return f"{new}{', the first of which ended it' if self.new and self.is_first else ''}"
         ran = f"{len(self.found)} of {self.suites} suites ran"
@@ -315,16 +328,15 @@ def read_words(words: list[str]) -> argparse.Namespace:
 
 def status_of(options: argparse.Namespace) -> int:
     """Runs a command. A bisection is told apart what can't be judged, an error of this program too."""
-    cannot = CANNOT_JUDGE if getattr(options, "bisect", False) else CANNOT_RUN
     try:
         return COMMANDS[options.command](options)
     except FAILURES as why:
         say(words_of(why))
     except Exception as why:
-        if cannot == CANNOT_RUN:
+        if cannot(options) == CANNOT_RUN:
             raise
         say(f"{type(why).__name__}: {why}")
-    return cannot
+    return cannot(options)
 
 
 def flushed(status: int) -> int:

@@ -42,6 +42,8 @@ COMMANDS = {
 EMULATING = {"x86_64": ("qemu-system-x86_64",), "aarch64": ("qemu-system-aarch64", "aarch64-linux-gnu-gcc")}
 # the size of huge pages, in KiB, unless it is said
 PAGE = 2048
+# a script whose hold ran out, and that was made again for it
+MADE_AGAIN = re.compile(r"(?ms)^script (?:(?!^script |^end ).)*?^again\n")
 # what ends a recorder in order if this program is killed, even in a way that it can't notice
 WITH_US = ("setpriv", "--pdeathsig", "TERM")
 
@@ -133,7 +135,7 @@ class Kernel:
         if ran.returncode:
             raise Problem(full(room) or reason(told, ran.returncode))
         say_boots(told)
-        return Recording((room / "recorded").read_text(encoding="utf-8"))
+        return Recording(last_tries((room / "recorded").read_text(encoding="utf-8")))
 
 
 def keep(text: str, path: Path | None) -> None:
@@ -207,8 +209,17 @@ def stop(ran: subprocess.Popen[bytes]) -> None:
         ran.wait()
 
 
+def last_tries(text: str) -> str:
+    """A recording without the tries of scripts that were made again."""
+    return MADE_AGAIN.sub("", text) if "\nagain\n" in text else text
+
+
 def so_far(room: Path) -> str:
-    """What the recorder has written so far on all its machines; the last line may lack its end."""
+    """What the recorder has written so far on all its machines, but for tries of scripts that were made again; the last line may lack its end."""
+    return last_tries(written_so_far(room))
+
+
+def written_so_far(room: Path) -> str:
     for folder in room.glob("emulate-*"):
         before, now = text_at(folder / "all"), text_at(folder / "recorded")
         # (each machine says first which kernel it has; and what a machine wrote is copied before the next one is booted)

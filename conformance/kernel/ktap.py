@@ -16,9 +16,12 @@ class Line:
     name: str
     is_right: bool
     told: tuple[str, ...] = ()
+    # why it shows nothing, if it does
+    skipped: str = ""
 
     def lines(self, number: int) -> list[str]:
-        return [*(f"# {it}" for it in self.told), f"{'ok' if self.is_right else 'not ok'} {number} {self.name}"]
+        mark = f" # SKIP {self.skipped}" if self.skipped else ""
+        return [*(f"# {it}" for it in self.told), f"{'ok' if self.is_right else 'not ok'} {number} {self.name}{mark}"]
 
 
 def lines_of(suite: Tested) -> list[Line]:
@@ -28,7 +31,8 @@ def lines_of(suite: Tested) -> list[Line]:
     for it in suite.results:
         difference = it.difference.seen.call if it.is_new and it.difference else None
         fault = broken.get(it.name) or counts.get(it.name) or difference
-        found.append(Line(it.name, fault is None, (f"new: {fault}",) if fault else ()))
+        skipped = "its hold ran out" if it.name in suite.ran_out and fault is None else ""
+        found.append(Line(it.name, fault is None, (f"new: {fault}",) if fault else (), skipped))
     for it in suite.stopped:
         found.append(Line(it.script.name if it.script else "the end", False, tuple(stopped_text(suite.name, it))))
     return found

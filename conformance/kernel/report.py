@@ -157,6 +157,12 @@ def known_of(all_of_them: list[Tested]) -> list[tuple[Known, int]]:
     return [(next(it for it in found if it and it.name == name), count) for name, count in sorted(counts.items())]
 
 
+def out_of_time(all_of_them: list[Tested]) -> list[str]:
+    """The scripts that show nothing, since each time that they were made a hold ended before the other call had ended or waited."""
+    found = [f"  {it.name}: {name}" for it in all_of_them for name in it.ran_out]
+    return ["not judged, since their holds ran out at each try:", *found, ""] if found else []
+
+
 def known_text(known: Known, count: int, version: str) -> str:
     """A known issue that was seen, and whether it was seen on this version before."""
     first = "" if known.was_seen_on(version) or not version else f" (not yet listed for {version})"
@@ -169,6 +175,7 @@ def text(all_of_them: list[Tested], basis: str, is_told: bool = False) -> str:
     lines = [f"kernel {version}; the machine's answers: {basis}", "", *tables(all_of_them), ""]
     if known := known_of(all_of_them):
         lines += ["known:", *(known_text(it, count, version) for it, count in known), ""]
+    lines += out_of_time(all_of_them)
     lines += brief_news(all_of_them) if is_told else news(all_of_them)
     return "\n".join([*lines, *covered(all_of_them)])
 
@@ -235,7 +242,7 @@ def suite_data(it: Tested) -> dict[str, object]:
     return raced | {
         "suite": it.name, "scripts": len(it.results), "calls": it.calls, "agree": it.agreed, "as_recorded": it.as_recorded, "differ": it.differ, "known": it.known,
         "new": it.new, "seconds": round(it.seconds, 1), "differences": differences, "wrong_counts": counts,
-        "broken_assertions": broken, "stopped": [stopped_data(one) for one in it.stopped], "not_made": it.left,
+        "broken_assertions": broken, "ran_out": list(it.ran_out), "stopped": [stopped_data(one) for one in it.stopped], "not_made": it.left,
     }  # fmt: skip
 
 
@@ -260,6 +267,8 @@ def junit_text(all_of_them: list[Tested]) -> str:
                 ElementTree.SubElement(case, "failure", message="wrong counts at rest").text = counts[it.name].rests
             elif it.name in broken:
                 ElementTree.SubElement(case, "failure", message="an assertion of a peer doesn't hold").text = str(broken[it.name])
+            elif it.name in suite.ran_out:
+                ElementTree.SubElement(case, "skipped", message="its hold ran out")
         for one in suite.stopped:
             case = ElementTree.SubElement(node, "testcase", classname=suite.name, name=one.script.name if one.script else "the end")
             ElementTree.SubElement(case, "failure", message=one.ended.what).text = "\n".join(stopped_text(suite.name, one))

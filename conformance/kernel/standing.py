@@ -15,7 +15,7 @@ from typing import Callable
 
 from compare import Script
 from kernel.console import Console, text_at
-from kernel.kernels import WITH_US, Kernel, odd, reason, stop
+from kernel.kernels import WITH_US, Kernel, last_tries, odd, reason, stop
 from kernel.problem import Problem
 from kernel.suites import text_of
 
@@ -115,7 +115,7 @@ class Standing:
         text = text_at(path)[self.read :]
         found = pattern.search(text)
         self.read += found.end()
-        return text[: found.start()], int(found[1])
+        return last_tries(text[: found.start()]), int(found[1])
 
     def answers(self, some: list[Script]) -> str:
         """What the kernel answers to scripts: behind one that leaves wrong counts the machine goes back."""

@@ -90,6 +90,8 @@ class Tested:
     rounds: Rounds | None = None
     # of a suite whose schedules are forced: in how many scripts a call was held, or denied memory
     forced: int | None = None
+    # the scripts that show nothing, since each time a hold ended too early
+    ran_out: tuple[str, ...] = ()
     audits: int | None = None
     # where the kernel ended it, if it did: no script behind that was made
     stopped: list[Stopped] = field(default_factory=list)
@@ -289,6 +291,7 @@ def judged(comparison: Comparison, work: Work, answered: list[Script], audits: l
         found.wrong = wrong_counts(answered, comparison.known) if audits is None else wrong_audits(answered, comparison.known, audits)
         found.rounds = rounds_of(work, answered)
         found.forced = sum(map(forced.was_forced, answered)) if any(map(forced.has_force, work.scripts)) else None
+        found.ran_out = tuple(it.name for it in answered if forced.ran_out(it))
         found.results = [Result(it.name, len(it.lines), len(it.lines)) for it in answered]
         return found
     if done is not None:

@@ -1,7 +1,7 @@
 #!/usr/bin/env python3
 """Tries whether `./kernel test` finds errors that are planted into Linux, one at a time.
 
-usage: try.py SOURCE [--jobs N] [--only NAME ..] [--table FILE] [--check]
+usage: try.py SOURCE [--jobs N] [--at-once N] [--only NAME ..] [--table FILE] [--check]
 
 SOURCE is a tree of Linux as Debian's package linux-source-6.1, or -7.3, has it. Each patch of that version's folder is
 applied to it, the kernel is built with the configuration of `./kernel test --config`, and tested by `./kernel test --first`; then the
@@ -9,6 +9,7 @@ patch is taken out again. First the kernel is tested as it came, which has to sh
 built, so a kernel after the first takes a minute.
 
   --jobs N      processes that build (2)
+  --at-once N   kernels that are tested at a time, while the next one is built (1)
   --only NAME   these patches alone, without the kernel as it came
   --table FILE  where the table is written (the part of it between the version's two marks, if the file has them)
   --words ..    further words for ./kernel test, as the last option
@@ -20,10 +21,12 @@ from __future__ import annotations
 import argparse
 import json
 import re
+import shutil
 import subprocess
 import sys
 import tempfile
 import time
+from concurrent.futures import Future, ThreadPoolExecutor
 from dataclasses import dataclass
 from pathlib import Path
 
@@ -36,7 +39,7 @@ SUITES = ("fixed", "quota", "resize", "held", "denied", "peers", "random", "race
 # what stands around the table of a version
 BEGIN, END = "<!-- planted {}: begin -->", "<!-- planted {}: end -->"
 # a kernel test that isn't done by then is ended, in seconds
-MOST_SECONDS = 1500
+MOST_SECONDS = 3000
 
 
 class CannotRun(Exception):
@@ -141,13 +144,22 @@ def tested(image: Path, words: list[str]) -> Found:
         return Found(done.returncode, suite_of(told), line, time.monotonic() - began)
 
 
-def tried(tree: Path, it: Planted, jobs: int, words: list[str]) -> Found:
-    """Plants an error, builds, tests, and takes it out again."""
+def planted(tree: Path, it: Planted, jobs: int, to: Path) -> Path:
+    """Plants an error, builds, keeps the image, and takes the error out again."""
     patch(tree, it)
     try:
-        return tested(built(tree, jobs), words)
+        return Path(shutil.copyfile(built(tree, jobs), to))
     finally:
         patch(tree, it, "--reverse")
+
+
+def tried(it: Planted, image: Path, words: list[str]) -> tuple[str, bool]:
+    """Tests a kernel, and prints its row at once; whether it was found."""
+    found = tested(image, words)
+    image.unlink()
+    line = row(it, found)
+    print(f"{line} {found.first}", flush=True)
+    return line, found.status == 1
 
 
 def row(it: Planted, found: Found) -> str:
@@ -181,22 +193,32 @@ def check(tree: Path) -> int:
     return 1 if failed else 0
 
 
+def is_clean(image: Path, words: list[str]) -> bool:
+    """Whether the kernel as it came shows nothing new, which is printed."""
+    found = tested(image, [it for it in words if it != "--first"])
+    print(f"as it came: status {found.status}, {found.seconds:.0f} s: {found.first}", flush=True)
+    return found.status == 0
+
+
 def try_all(options: argparse.Namespace) -> int:
-    tree, rows, missed = options.source, [], 0
+    tree, words = options.source, options.words
     configure(tree)
     some = [it for it in all_planted(tree) if not options.only or it.name in options.only]
-    if not options.only:
-        clean = tested(built(tree, options.jobs), [it for it in options.words if it != "--first"])
-        print(f"as it came: status {clean.status}, {clean.seconds:.0f} s: {clean.first}", flush=True)
-        missed += clean.status != 0
-    for it in some:
-        found = tried(tree, it, options.jobs, options.words)
-        rows.append(row(it, found))
-        print(f"{rows[-1]} {found.first}", flush=True)
-        missed += found.status != 1
+    clean: Future[bool] | None = None
+    started: list[Future[tuple[str, bool]]] = []
+    with tempfile.TemporaryDirectory(prefix="planted-") as name, ThreadPoolExecutor(options.at_once) as tests:
+        room = Path(name)
+        if not options.only:
+            image = Path(shutil.copyfile(built(tree, options.jobs), room / "clean"))
+            clean = tests.submit(is_clean, image, words)
+        for it in some:
+            image = planted(tree, it, options.jobs, room / it.name)
+            started.append(tests.submit(tried, it, image, words))
+        done = [it.result() for it in started]
+        missed = sum(not is_found for _, is_found in done) + (clean is not None and not clean.result())
     if options.table:
-        write_table(options.table, table(rows), version_of(tree))
-    print(f"planted: {len(rows) - missed} passed, {missed} failed")
+        write_table(options.table, table([line for line, _ in done]), version_of(tree))
+    print(f"planted: {len(done) - missed} passed, {missed} failed")
     return 1 if missed else 0
 
 
@@ -205,6 +227,7 @@ def main() -> int:
     parser = argparse.ArgumentParser(description=__doc__, formatter_class=raw, usage=argparse.SUPPRESS)
     parser.add_argument("source", type=Path)
     parser.add_argument("--jobs", type=int, default=2)
+    parser.add_argument("--at-once", type=int, default=1)
     parser.add_argument("--only", nargs="+", default=[])
     parser.add_argument("--table", type=Path)
     parser.add_argument("--check", action="store_true")

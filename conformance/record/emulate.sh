@@ -263,7 +263,7 @@ record() {
         # (each machine tells its kernel, which is the same)
         tail -n "+$((from > 0 ? 2 : 1))" "$work/recorded" >> "$to"
         [ "$status" = 3 ] || return 0
-        from=$((from + $(grep -c '^script ' "$work/recorded")))
+        from=$((from + $(grep -c '^end ' "$work/recorded")))
         say "booting another machine for the rest, from script $((from + 1)) on"
     done
 }

@@ -21,7 +21,15 @@ enum held {
  * each, with a bar between. The call of one task at a time can be held. */
 enum held ask_held(struct task *task, const struct call *call, const char *functions);
 
-/* Has a call that is held go on, if this task is to answer: it is held itself, or it waits for the one that is. */
-void let_go_for(struct task *task);
+/* Has a call that is held go on, if this task is to answer: it is held itself, or it waits for the one that is. Whether the hold
+ * lasted until then, or until this task's call had ended; if not, the script shows nothing of the two calls. */
+bool let_go_for(struct task *task);
+
+/* In a task's process: leaves the probe to the recorder. It stays where it is as long as any process has it open, so a call would be held
+ * where one of the script before was. */
+void forget_holds(void);
+
+/* Has this process, and those that it forks from now on, run beside the processor on which calls are held, or on all. */
+void run_beside_holds(bool is_beside);
 
 #endif

@@ -44,8 +44,16 @@ struct pool {
     struct task tasks[MOST_TASKS];
     struct board *board;
     bool is_resized;
+    /* a hold ended before what was to happen meanwhile had happened */
+    bool ran_out;
     struct entries entries;
 };
+
+/* A script whose hold runs out is made so often at most. */
+enum { MOST_TRIES = 4 };
+
+/* What a script leaves: the kernel's counts are right, or not; or it is to be made again. */
+enum left { RIGHT, WRONG, AGAIN };
 
 static size_t lines_written;
 
@@ -124,12 +132,21 @@ static struct board *new_board(void)
     return board;
 }
 
+static bool has_holds(const struct script *script)
+{
+    for (size_t k = 0; k < script->count; k++)
+        if (script->lines[k].kind == LINE_HOLD)
+            return true;
+    return false;
+}
+
 static void begin_pool(struct pool *pool)
 {
     mount_pool(pool);
     fill_pool(pool->script);
     open_files(pool);
     pool->board = new_board();
+    run_beside_holds(has_holds(pool->script));
     /* (what is buffered here would be written by each task, too) */
     fflush(stdout);
     for (unsigned k = 0; k < pool->script->tasks; k++)
@@ -300,11 +317,12 @@ static void run_deny(struct pool *pool, const struct line *line)
 static void run_wait(struct pool *pool, const struct line *line)
 {
     struct task *task = &pool->tasks[line->task - 1];
+    bool has_lasted = let_go_for(task);
 
-    let_go_for(task);
+    pool->ran_out |= !has_lasted;
     if (task->is_alive)
         wait_for(task, line->task);
-    printf("%s = %s", line->text, task->is_alive ? task->desk->answer : "refused notalive");
+    printf("%s = %s", line->text, !task->is_alive ? "refused notalive" : has_lasted ? task->desk->answer : "ranout");
 }
 
 static void run_resize(struct pool *pool, const struct line *line)
@@ -407,11 +425,12 @@ static void run_line(struct pool *pool, const struct line *line)
         pause_machine();
 }
 
-/* Runs a script, and returns whether the kernel's counts are right where nothing is left of it. */
-static bool run_script(const struct script *script, const char *mount_point)
+/* Runs a script. One whose hold ran out, and that left no wrong count, may be made again. */
+static enum left run_script(const struct script *script, const char *mount_point, bool may_repeat)
 {
     struct pool pool = {.script = script, .mount_point = mount_point};
     struct counts total, now;
+    bool is_right;
 
     begin_pool(&pool);
     printf("script %s", script->name);
@@ -423,11 +442,26 @@ static bool run_script(const struct script *script, const char *mount_point)
     total = counts_of_kernel();
     end_pool(&pool);
     now = counts_of_kernel();
-    printf("end total %ld free %ld resv %ld surp %ld", total.total, now.free, now.reserved, now.surplus);
+    is_right = !now.reserved && now.free == now.total;
+    may_repeat &= pool.ran_out && is_right;
+    if (may_repeat)
+        printf("again");
+    else
+        printf("end total %ld free %ld resv %ld surp %ld", total.total, now.free, now.reserved, now.surplus);
     end_line();
     if (umount(mount_point))
         fail_errno("unmounting the hugetlbfs");
-    return !now.reserved && now.free == now.total;
+    return may_repeat ? AGAIN : is_right ? RIGHT : WRONG;
+}
+
+/* Runs a script as often as its hold runs out, and returns whether the counts are right where nothing is left of it. */
+static bool run_to_its_end(const struct script *script, const char *mount_point)
+{
+    enum left left = AGAIN;
+
+    for (int tries = 1; left == AGAIN; tries++)
+        left = run_script(script, mount_point, tries < MOST_TRIES);
+    return left == RIGHT;
 }
 
 /* Gives the mounts that are to come to this process and its tasks alone: they go when those do. */
@@ -461,7 +495,7 @@ void run_scripts(const struct scripts *scripts, size_t from, const char *mount_p
     ask_for_overcommit(0);
     tell_kernel();
     for (; k < scripts->count && is_right; k++) {
-        is_right = run_script(&scripts->all[k], mount_point);
+        is_right = run_to_its_end(&scripts->all[k], mount_point);
         check_written();
     }
     end_denials();

@@ -14,6 +14,7 @@
 
 #include "deny.h"
 #include "fail.h"
+#include "hold.h"
 
 /* What a task's process does: answers as long as the other end is there. */
 static _Noreturn void answer_all(struct desk *desk, struct files files, int line)
@@ -66,6 +67,7 @@ struct task begin_task(unsigned number, struct files files, const struct task *o
         for (unsigned k = 0; k + 1 < number; k++)
             close(others[k].line);
         close(ends[0]);
+        forget_holds();
         answer_all(task.desk, files, ends[1]);
     }
     close(ends[1]);
