@@ -1,16 +1,13 @@
 #!/usr/bin/env node
 // Clicks through pages of `draw --html` in the browsers that are there: pages are made here of runs that are written out here.
-//
-//   gate/page_clicks.mjs HEAD TAIL    files with what stands before a page's data and behind them
-//
 // The last line is 'N passed, M failed'.
 import fs from "node:fs";
 import os from "node:os";
 import path from "node:path";
 import { pathToFileURL } from "node:url";
 import { inBrowsers } from "../library/page/browsers.mjs";
+import { HEAD, TAIL } from "./page_texts.mjs";
 
-const [head, tail] = process.argv.slice(2);
 const room = fs.mkdtempSync(path.join(os.tmpdir(), "page-clicks-"));
 // milliseconds in which the page has to come to what is expected, however busy the machine is
 const PATIENCE = 60_000;
@@ -45,7 +42,7 @@ function crowd() {
 
 async function open(name, lines, hash = "") {
   const file = path.join(room, `${name}.html`);
-  fs.writeFileSync(file, `${fs.readFileSync(head, "utf8")}${lines.join("\n")}\n${fs.readFileSync(tail, "utf8")}`);
+  fs.writeFileSync(file, `${HEAD}${lines.join("\n")}\n${TAIL}`);
   await browser.go(pathToFileURL(file).href + hash);
   await browser.until("document.getElementById('row').textContent !== ''");
 }

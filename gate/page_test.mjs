@@ -1,11 +1,10 @@
 #!/usr/bin/env node
 // Tries the page's functions that read a run, search it, draw it and tell of it, on runs that are written out here, with a page and a
 // canvas that remember what is put on them. The last line is 'N passed, M failed'.
-import fs from "node:fs";
 import vm from "node:vm";
+import { textOf } from "./page_texts.mjs";
 
-const PAGE = new URL("../crates/hp_page/page/", import.meta.url);
-const SOURCES = "run moments search places lanes marks curves picture dom viewer says page".split(" ");
+const SCRIPTS = ["RUN_SCRIPT", "PICTURE_SCRIPT", "VIEWER_SCRIPT", "PAGE_SCRIPT"];
 
 // ---- a page without a browser
 
@@ -41,7 +40,7 @@ const sandbox = {
   Path2D: class { moveTo() {} lineTo() {} closePath() {} arc() {} rect() {} },
 };
 vm.createContext(sandbox);
-vm.runInContext(`"use strict";${SOURCES.map((name) => fs.readFileSync(new URL(`${name}.js`, PAGE), "utf8")).join("")}`, sandbox);
+vm.runInContext(`"use strict";${SCRIPTS.map(textOf).join("").split("</script>")[0]}`, sandbox);
 const page = new Proxy({}, { get: (_, name) => vm.runInContext(name, sandbox) });
 const { readRun, standingAt, waitAt, lifeAt, findEvents, nextMatch, rangeOf, seriesOf, eventAt, eventWords, outcomeWords, waitWords } = page;
 const { extendRun, countsAt, waitGroups, groupWords, view, topOf, drawCurves, drawLanes, drawLegend, sayCounts, sayWaits } = page;

@@ -1,9 +1,11 @@
 -- The head, the objects and the tail of a page, one behind the other.
-use Rattle.std.proofs.Common.{◌≡◌, ◌≤◌, ℕ, List, [], ◌++◌, ◌^◌, ◌-◌, length, Option, refl, sym, subst, inr, arith}
+use Rattle.std.proofs.Common.{◌≡◌, ◌≤◌, ◌<◌, ◌+◌, ◌∙◌, ℕ, List, [], ◌∷◌, ◌++◌, ◌^◌, ◌-◌, ap, length, get_or, take, drop, Option, refl, sym, subst, inr, arith}
+use Rattle.std.specs.List.{flat_map}
 use Rattle.std.specs.Prelude.{OnOk, IfErr, Result, Ok, Err}
 use Rattle.std.specs.Io.KnownBytes.{Appends}
 use Rattle.std.proofs.KnownBytes.{Appends-kept, Appends-trans}
-use Rattle.std.proofs.lemmas.List.{append-nil, take_all}
+use Rattle.std.proofs.lemmas.List.{append-nil, drop_more, take-append-drop, take_all, take_more}
+use Rattle.std.proofs.lemmas.List.Concat.{flat_map-append}
 use Rattle.hp_base.specs.Text.{Sizes}
 use Rattle.hp_base.specs.declared.event.Event.{Event}
 use Rattle.hp_explain.specs.JsonRuns.{Objects, WroteObjects, WroteSomeObjects, no_objects, some_objects, all_objects}
@@ -102,49 +104,29 @@ not_paged (Ok x) from to before after s events reads stopped = tt
 not_paged (Err fault) from to before after s events reads stopped =
     inr (stopped.0, record { sizes = s; events = events; reads = reads; wrote = stopped.1 })
 
--- ---- a head in pieces, of which each is written as the text that it is
+-- ---- texts, one behind the other
 
-is_write_fault : (fault : ReplayFault) → fault ≡ Write → IsWriteFault fault
-is_write_fault fault is = subst IsWriteFault (sym is) tt
+-- those up to one, and that one
+pub one_more : {X : Type 0} (f : X → List ℕ) (xs : List X) (k : ℕ) (x : X) → k < length xs
+    → flat_map f (take (k + 1) xs) ≡ flat_map f (take k xs) ++ f (get_or xs k x)
+one_more f xs k x within =
+    ap (λ l. flat_map f l) (take_more xs k x within) ∙ flat_map-append f (take k xs) (get_or xs k x ∷ [])
+    ∙ ap (λ l. flat_map f (take k xs) ++ l) (append-nil (f (get_or xs k x)))
 
--- a piece was written in part
-pub stopped_in_piece : (before after : Option (List ℕ)) (fault : ReplayFault) (text piece more : List ℕ) → text ≡ piece
-    → (fault ≡ Write) × Wrote before after text → IsWriteFault fault × Wrote before after (piece ++ more)
-stopped_in_piece before after fault text piece more same stopped = (
-  is_write_fault fault stopped.0,
-  Wrote-more before after piece more (subst (Wrote before after) same stopped.1),
+-- all are those up to one, that one, and those behind it
+pub parted : {X : Type 0} (f : X → List ℕ) (xs : List X) (k : ℕ) (x : X) → k < length xs
+    → flat_map f xs ≡ flat_map f (take k xs) ++ (f (get_or xs k x) ++ flat_map f (drop (k + 1) xs))
+parted f xs k x within =
+    ap (λ l. flat_map f l) (sym (take-append-drop k xs) ∙ ap (λ l. take k xs ++ l) (drop_more xs k x within))
+    ∙ flat_map-append f (take k xs) (get_or xs k x ∷ drop (k + 1) xs)
+
+-- those up to one were written whole, and that one in part
+pub stopped_in_one : {X : Type 0} (f : X → List ℕ) (xs : List X) (k : ℕ) (x : X) (before mid after : Option (List ℕ)) (fault : ReplayFault)
+    → k < length xs → Appends before mid (flat_map f (take k xs)) → fault ≡ Write → Wrote mid after (f (get_or xs k x))
+    → IsWriteFault fault × Wrote before after (flat_map f xs)
+stopped_in_one f xs k x before mid after fault within wrote is stopped = (
+  subst IsWriteFault (sym is) tt,
+  subst (Wrote before after) (sym (parted f xs k x within))
+      (Wrote-behind before mid after (flat_map f (take k xs)) (f (get_or xs k x) ++ flat_map f (drop (k + 1) xs)) wrote
+      (Wrote-more mid after (f (get_or xs k x)) (flat_map f (drop (k + 1) xs)) stopped)),
 )
-
--- it was written whole, and what is behind it in part
-pub stopped_behind : (before mid after : Option (List ℕ)) (fault : ReplayFault) (text piece more : List ℕ) → text ≡ piece
-    → Appends before mid text → IsWriteFault fault × Wrote mid after more → IsWriteFault fault × Wrote before after (piece ++ more)
-stopped_behind before mid after fault text piece more same wrote stopped = (
-  stopped.0,
-  Wrote-behind before mid after piece more (subst (Appends before mid) same wrote) stopped.1,
-)
-
--- the last one was written
-pub last_wrote : {A : Type 0} (r : Result A ReplayFault) (before after : Option (List ℕ)) (text piece : List ℕ) → text ≡ piece
-    → OnOk r (Appends before after text) → OnOk r (Appends before after piece)
-last_wrote (Ok x) before after text piece same wrote = subst (Appends before after) same wrote
-last_wrote (Err fault) before after text piece same wrote = tt
-
-pub last_stopped : {A : Type 0} (r : Result A ReplayFault) (before after : Option (List ℕ)) (text piece : List ℕ) → text ≡ piece
-    → IfErr r (λ fault. (fault ≡ Write) × Wrote before after text) → IfErr r (λ fault. IsWriteFault fault × Wrote before after piece)
-last_stopped (Ok x) before after text piece same stopped = tt
-last_stopped (Err fault) before after text piece same stopped =
-    (is_write_fault fault stopped.0, subst (Wrote before after) same stopped.1)
-
--- and so were all from one on
-pub wrote_behind : {A : Type 0} (r : Result A ReplayFault) (before mid after : Option (List ℕ)) (text piece more : List ℕ) → text ≡ piece
-    → Appends before mid text → OnOk r (Appends mid after more) → OnOk r (Appends before after (piece ++ more))
-wrote_behind (Ok x) before mid after text piece more same wrote others =
-    Appends-trans before mid after piece more (subst (Appends before mid) same wrote) others
-wrote_behind (Err fault) before mid after text piece more same wrote others = tt
-
-pub all_stopped : {A : Type 0} (r : Result A ReplayFault) (before mid after : Option (List ℕ)) (text piece more : List ℕ) → text ≡ piece
-    → Appends before mid text → IfErr r (λ fault. IsWriteFault fault × Wrote mid after more)
-    → IfErr r (λ fault. IsWriteFault fault × Wrote before after (piece ++ more))
-all_stopped (Ok x) before mid after text piece more same wrote stopped = tt
-all_stopped (Err fault) before mid after text piece more same wrote stopped =
-    stopped_behind before mid after fault text piece more same wrote stopped

@@ -1,24 +1,36 @@
 -- What is read and written where a trace is written as a page.
-use Rattle.std.specs.Prelude.{◌≡◌, ◌≢◌, ℕ, List, ◌++◌, Option, ◌⊎◌, All}
+use Rattle.std.specs.List.{flat_map}
+use Rattle.std.specs.Prelude.{◌≡◌, ◌≢◌, ℕ, List, [], ◌++◌, ◌∷◌, Option, ◌⊎◌, All}
 use Rattle.std.specs.Io.KnownBytes.{Appends, Keeps}
 use Rattle.hp_base.specs.Text.{Sizes}
 use Rattle.hp_base.specs.declared.event.Event.{Event}
 use Rattle.hp_explain.specs.JsonRuns.{Objects, SomeObjects}
 use Rattle.hp_explain.specs.Views.{whole_view}
+use Rattle.hp_page.specs.declared.body.TheConstants.{BODY}
 use Rattle.hp_page.specs.declared.front.TheConstants.{FRONT}
+use Rattle.hp_page.specs.declared.help.TheConstants.{HELP, HELP_BEGIN}
+use Rattle.hp_page.specs.declared.legend.TheConstants.{LEGEND}
 use Rattle.hp_page.specs.declared.page_script.TheConstants.{PAGE_SCRIPT}
+use Rattle.hp_page.specs.declared.page_style.TheConstants.{PAGE_STYLE}
 use Rattle.hp_page.specs.declared.picture_script.TheConstants.{PICTURE_SCRIPT}
 use Rattle.hp_page.specs.declared.run_script.TheConstants.{RUN_SCRIPT}
+use Rattle.hp_page.specs.declared.search_form.TheConstants.{SEARCH_FORM}
 use Rattle.hp_page.specs.declared.tail.TheConstants.{TAIL}
+use Rattle.hp_page.specs.declared.tools.TheConstants.{TOOLS, TOOLS_END}
+use Rattle.hp_page.specs.declared.viewer_script.TheConstants.{VIEWER_SCRIPT}
+use Rattle.hp_page.specs.declared.viewer_style.TheConstants.{VIEWER_STYLE}
 use Rattle.hp_text.specs.Collecting.{ReadsTrace, NotRead}
 use Rattle.hp_text.specs.Writing.{Wrote, IsWriteFault}
 use Rattle.hp_text.specs.declared.fault.ReplayFault.{ReplayFault}
 
 -- A reader had the bytes `from` left, and now has `to`; a writer held `before`, and now holds `after`.
 
--- what stands before the data of a page, its script among it, and behind them
+-- what stands before the data of a page, and behind them
 unfoldable pub head_text : List ℕ
-head_text = FRONT.now ++ (RUN_SCRIPT.now ++ (PICTURE_SCRIPT.now ++ PAGE_SCRIPT.now))
+head_text = flat_map (λ text. text) (
+    FRONT.now ∷ VIEWER_STYLE.now ∷ PAGE_STYLE.now ∷ TOOLS.now ∷ SEARCH_FORM.now ∷ TOOLS_END.now ∷ LEGEND.now
+    ∷ HELP_BEGIN.now ∷ HELP.now ∷ BODY.now ∷ RUN_SCRIPT.now ∷ PICTURE_SCRIPT.now
+    ∷ VIEWER_SCRIPT.now ∷ PAGE_SCRIPT.now ∷ [])
 
 unfoldable pub tail_text : List ℕ
 tail_text = TAIL.now

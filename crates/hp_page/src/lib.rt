@@ -6,11 +6,19 @@
 //! shows of the lines is not proved.
 #![tactic(auto)]
 
+mod body;
 mod front;
+mod help;
+mod legend;
 mod page_script;
+mod page_style;
 mod paging;
 mod picture_script;
 mod run_script;
+mod search_form;
 mod tail;
+mod tools;
+mod viewer_script;
+mod viewer_style;
 
 pub use paging::{page, write_page};

@@ -1,20 +1,42 @@
 //! Writes the page of a trace.
 ghost use Rattle.std.specs.Prelude.{◌≡◌, ◌≤◌, OnOk, IfErr, IfSome, length};
 ghost use Rattle.std.specs.Io.KnownBytes.{Appends};
+ghost use Rattle.std.specs.List.{flat_map};
 ghost use Rattle.hp_base.specs.Text.{sizes};
 ghost use Rattle.hp_page.specs.Pages.{IsPage, NotPaged, WrotePage, WroteSomePage, head_text, tail_text};
 ghost use Rattle.hp_text.specs.Streams.{TellsReads, TellsWrites};
 ghost use Rattle.hp_text.specs.Traces.{HasFault};
 ghost use Rattle.hp_text.specs.Writing.{IsWriteFault, Wrote};
 
+use crate::body::BODY;
 use crate::front::FRONT;
+use crate::help::{HELP, HELP_BEGIN};
+use crate::legend::LEGEND;
 use crate::page_script::PAGE_SCRIPT;
+use crate::page_style::PAGE_STYLE;
 use crate::picture_script::PICTURE_SCRIPT;
 use crate::run_script::RUN_SCRIPT;
+use crate::search_form::SEARCH_FORM;
 use crate::tail::TAIL;
+use crate::tools::{TOOLS, TOOLS_END};
+use crate::viewer_script::VIEWER_SCRIPT;
+use crate::viewer_style::VIEWER_STYLE;
 use hp_explain::{View, write_objects};
 use hp_text::{MOST_EVENTS, ReplayFault, Sink, Source, Trace, read_trace, write_text};
 use std::alloc::Global;
+
+/// Writes these texts.
+fn write_texts<W: Sink>(writer: &mut W, texts: &[&str]) -> Result<(), ReplayFault>
+    ensures ok { OnOk result (Appends (W.contents writer.old) (W.contents writer.new) (flat_map (λ text. text.now) texts.now)) }
+    ensures err { IfErr result (λ fault. IsWriteFault fault
+        × Wrote (W.contents writer.old) (W.contents writer.new) (flat_map (λ text. text.now) texts.now)) }
+    ensures writes { TellsWrites result (W.failures writer.old) (W.failures writer.new) }
+{
+    for text in texts {
+        write_text(writer, text.as_bytes())?;
+    }
+    Ok(())
+}
 
 /// Writes what stands before the data.
 #[tactic(auto, unfolding(crate::specs::Pages::head_text))]
@@ -23,10 +45,25 @@ fn write_head<W: Sink>(writer: &mut W) -> Result<(), ReplayFault>
     ensures err { IfErr result (λ fault. IsWriteFault fault × Wrote (W.contents writer.old) (W.contents writer.new) head_text) }
     ensures writes { TellsWrites result (W.failures writer.old) (W.failures writer.new) }
 {
-    write_text(writer, FRONT.as_bytes())?;
-    write_text(writer, RUN_SCRIPT.as_bytes())?;
-    write_text(writer, PICTURE_SCRIPT.as_bytes())?;
-    write_text(writer, PAGE_SCRIPT.as_bytes())
+    write_texts(
+        writer,
+        &[
+            FRONT,
+            VIEWER_STYLE,
+            PAGE_STYLE,
+            TOOLS,
+            SEARCH_FORM,
+            TOOLS_END,
+            LEGEND,
+            HELP_BEGIN,
+            HELP,
+            BODY,
+            RUN_SCRIPT,
+            PICTURE_SCRIPT,
+            VIEWER_SCRIPT,
+            PAGE_SCRIPT,
+        ],
+    )
 }
 
 /// Writes what stands behind them.

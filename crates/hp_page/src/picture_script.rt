@@ -1,4 +1,4 @@
-//! Of a page, the functions that draw a run. `gate/page.py` makes it of the files in `page/`.
+//! Of a page, the functions that draw a run.
 
 /// Of a page, the functions that draw a run.
 pub(crate) const PICTURE_SCRIPT: &str =

@@ -1,4 +1,4 @@
-//! Of a page, the functions that read a run, and search it. `gate/page.py` makes it of the files in `page/`.
+//! Of a page, the functions that read a run, and search it.
 
 /// Of a page, the functions that read a run, and search it.
 pub(crate) const RUN_SCRIPT: &str =

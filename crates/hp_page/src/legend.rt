@@ -1,4 +1,7 @@
-<ul id="legend" aria-label="Legend of the picture">
+//! Of a page, the legend, which the library's page has, too.
+
+/// Of a page, the legend, which the library's page has, too.
+pub(crate) const LEGEND: &str = r###"<ul id="legend" aria-label="Legend of the picture">
   <li><span class="swatch map"></span>map</li>
   <li><span class="swatch mapn"></span>mapn</li>
   <li><span class="swatch unmap"></span>unmap</li>
@@ -30,3 +33,4 @@
   <li id="used-key"><svg width="18" height="12" aria-hidden="true"><path class="used" d="M0 6h18"/></svg>used<span class="more"> pages of a quota, which is
     the dotted line, unless it is more than four times what the curves show</span></li>
 </ul>
+"###;

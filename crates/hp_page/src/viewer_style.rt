@@ -1,4 +1,8 @@
-/* The picture of a run and its legend, as both pages have them; each page has its own ink, paper and accent. */
+//! Of a page, the style of the picture and its legend, which the library's page has, too.
+
+/// Of a page, the style of the picture and its legend, which the library's page has, too.
+pub(crate) const VIEWER_STYLE: &str =
+    r###"/* The picture of a run and its legend, as both pages have them; each page has its own ink, paper and accent. */
 :root {
   --lane: #f3f3f5; --grid: #dcdce2;
   --map: #a9cdee; --mapn: #93d8cd; --unmap: #cdbfec; --load: #c0e2a8; --store: #f7d778; --alloc: #f6b78c; --allock: #f6b78c; --punch: #f5adbc;
@@ -51,3 +55,4 @@
 #legend .bare { stroke: var(--bare); stroke-width: 1.5; stroke-dasharray: 4 3; }
 #legend .used { stroke: var(--used); stroke-width: 1.5; }
 kbd { font: 12px ui-monospace, Menlo, Consolas, monospace; border: 1px solid var(--grid); border-radius: 4px; padding: 0 5px; background: var(--lane); }
+"###;

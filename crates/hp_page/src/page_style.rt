@@ -1,4 +1,7 @@
-/* The page around a picture. */
+//! Of a page, the style of the rest.
+
+/// Of a page, the style of the rest.
+pub(crate) const PAGE_STYLE: &str = r###"/* The page around a picture. */
 :root {
   color-scheme: light dark;
   --ink: #222; --soft: #666; --paper: #fff; --accent: #1257b0; --on-accent: #fff; --alarm: #b00020; --alarm-ground: #fdeef0;
@@ -79,3 +82,4 @@ summary { cursor: pointer; color: var(--accent); }
   header { padding: 8px 10px 0; }
   #help { max-height: none; }
 }
+"###;

@@ -1,4 +1,7 @@
-  <h2 id="help-title">The picture</h2>
+//! Of a page, the help on the picture, which the library's page has, too.
+
+/// Of a page, the help on the picture, which the library's page has, too.
+pub(crate) const HELP: &str = r###"  <h2 id="help-title">The picture</h2>
   <p>Time runs to the right, one step for each event. The numbers at the top are lines of the trace. Each task that the trace mentions has a
     lane; the lane <i>pool</i> has resizes, and events of tasks that the pool doesn't have. Below the lanes are the counts after each event.
     The legend above explains colours, marks and curves.</p>
@@ -24,3 +27,9 @@
     (<i>incall</i>), or of Linux's function for its phase (<i>region_chg</i>). <i>waits</i> matches where a wait begins, changes or ends.
     <i>task 3</i>, <i>file 0</i>, <i>index 2</i> and <i>line 120</i> match numbers, and <i>of store</i> all events of such calls:
     <i>of store task 3 blocked</i>.</p>
+"###;
+
+/// What begins the help.
+pub(crate) const HELP_BEGIN: &str =
+    r###"<section id="help" class="own-keys" aria-labelledby="help-title" hidden>
+"###;

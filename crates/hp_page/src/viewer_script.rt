@@ -1,3 +1,22 @@
+//! Of a page, the functions that move the picture.
+
+/// Of a page, the functions that move the picture.
+pub(crate) const VIEWER_SCRIPT: &str = r###"// What makes elements of a page.
+
+const $ = (id) => document.getElementById(id);
+
+function element(tag, properties = {}, ...children) {
+  const made = Object.assign(document.createElement(tag), properties);
+  made.append(...children);
+  return made;
+}
+
+const plural = (count, word) => `${count.toLocaleString("en")} ${word}${count === 1 ? "" : "s"}`;
+
+/** Names with what they have, for a list of definitions. */
+function pairs(list, entries) {
+  list.replaceChildren(...entries.map(([name, words]) => element("div", {}, element("dt", { textContent: name }), element("dd", { textContent: words }))));
+}
 // What moves a picture: it is zoomed and searched, and events are picked, by buttons, keys and fingers. A page says by its hooks what else
 // follows from that.
 
@@ -218,3 +237,4 @@ function listenToPicture() {
     draw();
   });
 }
+"###;
