@@ -1,0 +1,4 @@
+pub mod Adding
+pub mod Gathering
+pub mod Naming
+pub mod Splitting

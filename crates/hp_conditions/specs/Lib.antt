@@ -1,0 +1,5 @@
+pub mod Lines
+pub mod Numbers
+pub mod Pieces
+pub mod Sought
+pub mod Words
