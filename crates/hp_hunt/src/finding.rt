@@ -105,3 +105,28 @@ pub fn find(
     }
     Ok(None)
 }
+
+/// The same search, by the caller alone: it starts no thread.
+pub fn find_alone(
+    alloc: Global,
+    script: &Script,
+    hunt: Hunt,
+    conditions: &[Condition],
+) -> Result<Option<Found>, ReplayFault>
+    ensures found { IfOk result (λ result. IfSome result (IsFound script.now hunt conditions.now)) }
+    ensures none { IfOk result (λ result. result ≡ None → NoneMeets script.now hunt conditions.now hunt.limit) }
+    ensures memory { IfErr result (λ fault. fault ≡ ReplayFault.Memory) }
+{
+    let plan = &Plan::new(alloc, script, hunt.chances)?;
+    let mut events = Vec::new(alloc);
+    for run in 0..hunt.limit {
+        if explore_run(alloc, script, plan, hunt.seed, run, conditions, &mut events)? {
+            let config = script.config;
+            return Ok(Some(Found {
+                run,
+                trace: Trace { config, events },
+            }));
+        }
+    }
+    Ok(None)
+}

@@ -23,7 +23,7 @@ pub use condition::{
     Sought, SoughtAnswer,
 };
 pub use cutting::Shrinking;
-pub use finding::{Found, Hunt, find};
+pub use finding::{Found, Hunt, find, find_alone};
 pub use meeting::meets;
 pub use minimizing::minimize;
 pub use watching::{Watch, Watches};

@@ -1,5 +1,5 @@
 -- Which state stands at the place of a key, and what comes of it as one is added.
-use Rattle.std.proofs.Common.{◌≡◌, ◌∙◌, ℕ, zero, suc, ◌+◌, ◌<◌, ◌≤◌, ◌++◌, ◌∷◌, [], List, length, get_or, set, refl, sym, ap, subst}
+use Rattle.std.proofs.Common.{◌≡◌, ◌∙◌, ℕ, suc, ◌+◌, ◌<◌, ◌≤◌, ◌++◌, ◌∷◌, [], List, length, get_or, set, refl, sym, ap, subst}
 use Rattle.std.proofs.Common.{arith, inl, inr}
 use Rattle.std.specs.Prelude.{◌==◌, ◌||◌, Bool, true, false, cond, Contains, Option, None, Some, map, min}
 use Rattle.std.specs.List.{AllByRecursion, IsDistinct, list_any}
@@ -8,10 +8,9 @@ use Rattle.std.proofs.lemmas.Bool.{cases_eq, cases_lt}
 use Rattle.std.proofs.lemmas.Bool.Decides.{nat_tests}
 use Rattle.std.proofs.lemmas.List.{get_or_append_left, get_or_past, get_or_push, get_or-set_other, get_or-set_same, length-map, length_push}
 use Rattle.std.proofs.lemmas.List.Elements.{Contains-get_or}
-use Rattle.hp_layers.specs.Layers.{AddsSome, AreCounted, AreKeysOf, AreValid, IsCovered, KeysStand}
-use Rattle.hp_layers.specs.Named.{AddsWays, IsIndexed, KeepsPlaces, PutsAtEnd}
+use Rattle.hp_layers.specs.Layers.{AddsSome, AreKeysOf, AreValid, KeysStand}
+use Rattle.hp_layers.specs.Named.{IsIndexed, KeepsPlaces, PutsAtEnd}
 use Rattle.hp_layers.specs.Weighed.{AreWithin, IsAsMany, most}
-use Rattle.hp_layers.proofs.Covering.{covered_by}
 use Rattle.hp_layers.proofs.Naming.{here, there}
 
 -- equal keys have one place

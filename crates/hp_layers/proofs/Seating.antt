@@ -1,16 +1,16 @@
 -- The endings of states, at their places in a table.
-use Rattle.std.proofs.Common.{◌≡◌, ◌∙◌, ℕ, ◌+◌, ◌*◌, ◌++◌, ◌∷◌, ◌⊎◌, [], List, length, get_or, refl, sym, ap, subst}
+use Rattle.std.proofs.Common.{◌≡◌, ◌∙◌, ℕ, ◌+◌, ◌*◌, ◌++◌, ◌∷◌, [], List, get_or, refl, sym, ap, subst}
 use Rattle.std.proofs.Common.{arith, inl, inr}
 use Rattle.std.specs.Prelude.{◌==◌, Bool, true, false, cond, Contains, Option, None, Some, is_some, min}
 use Rattle.std.specs.List.{AllZip, count_by}
-use Rattle.std.proofs.lemmas.List.{append-nil, append_assoc, length_push}
+use Rattle.std.proofs.lemmas.List.{append-nil, append_assoc}
 use Rattle.std.proofs.lemmas.List.Elements.{Contains-get_or, Contains-push_cases}
 use Rattle.std.proofs.lemmas.List.Sums.{sum_by-cons}
 use Rattle.hp_layers.specs.Ended.{EndingsStand, TakesOne, has_place}
 use Rattle.hp_layers.specs.Named.{AddsSeat, AddsWays, Grows, IsIndexed, IsSeat, KeepsPlaces, PutsAtEnd, TakesWays}
 use Rattle.hp_layers.specs.Weighed.{IsAsMany, most, weigh}
 use Rattle.hp_layers.specs.declared.counting.RunCounts.{RunCounts}
-use Rattle.hp_layers.proofs.Indexing.{HaveOnePlace, kept_place, keeps_none, keeps_on, none_some, puts_keep, some_one}
+use Rattle.hp_layers.proofs.Indexing.{HaveOnePlace, kept_place, keeps_none, keeps_on, puts_keep}
 use Rattle.hp_layers.proofs.Naming.{zip_on}
 use Rattle.hp_layers.proofs.Spreading.{more_at}
 

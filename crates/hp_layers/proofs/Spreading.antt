@@ -1,26 +1,26 @@
 -- Where runs lead, layer by layer, each with the place of a state that is as good; and where they end.
-use Rattle.std.proofs.Common.{◌≡◌, ◌∙◌, ℕ, zero, suc, ◌+◌, ◌*◌, ◌<◌, ◌≤◌, ◌++◌, ◌∷◌, ◌⊎◌, [], List, length, get_or, take, refl, sym, ap, subst}
+use Rattle.std.proofs.Common.{◌≡◌, ◌∙◌, ℕ, zero, suc, ◌+◌, ◌*◌, ◌<◌, ◌≤◌, ◌++◌, ◌∷◌, ◌⊎◌, [], List, length, get_or, refl, sym, ap, subst}
 use Rattle.std.proofs.Common.{arith, inl, inr}
 use Rattle.std.specs.Prelude.{◌==◌, Bool, true, false, cond, Contains, Option, None, Some, map, min}
 use Rattle.std.specs.List.{AllZip, count_by}
 use Rattle.std.proofs.Math.Nat.{mul-add}
 use Rattle.std.proofs.lemmas.Bool.{cases_lt}
 use Rattle.std.proofs.lemmas.List.{append-nil, append_assoc, get_or_append_left, get_or_past, length_push, length-append, map-append, same_from_push}
-use Rattle.std.proofs.lemmas.List.Elements.{Contains-append_cases, Contains-append_left, Contains-append_right, Contains-get_or}
+use Rattle.std.proofs.lemmas.List.Elements.{Contains-append_cases, Contains-append_left, Contains-append_right}
 use Rattle.std.proofs.lemmas.List.Sums.{sum_by-append, sum_by-cons}
 use Rattle.hp_layers.specs.Ended.{EndsAlike}
-use Rattle.hp_layers.specs.Layers.{AreAllAfter, AreValid, IsCovered, IsLayer, IsReached}
-use Rattle.hp_layers.specs.Named.{AddsEach, AddsSeat, AddsWays, AreApart, AreEach, AreMoves, AreNamed, AreTold, EndsAt, GoOn, Grows}
+use Rattle.hp_layers.specs.Layers.{AreAllAfter, AreValid, IsLayer, IsReached}
+use Rattle.hp_layers.specs.Named.{AddsEach, AddsWays, AreApart, AreEach, AreMoves, AreNamed, AreTold, EndsAt, GoOn, Grows}
 use Rattle.hp_layers.specs.Named.{IsIndexed, IsSeat, KeepsPlaces, LeadsBy, TakesWays}
 use Rattle.hp_layers.specs.Weighed.{IsAsMany, most, weigh}
 use Rattle.hp_layers.specs.declared.counting.RunCounts.{RunCounts}
 use Rattle.hp_layers.proofs.Covering.{covered_by, nothing_in}
-use Rattle.hp_layers.proofs.Indexing.{kept_place, keeps_none, keeps_on, placed, some_one, none_some}
+use Rattle.hp_layers.proofs.Indexing.{kept_place, placed, some_one}
 use Rattle.hp_layers.proofs.Layering.{ends}
 use Rattle.hp_layers.proofs.Naming.{apart_append, apart_ended, apart_next, apart_none, apart_one, came_from, count_ended, count_next, ended_from, ended_runs}
 use Rattle.hp_layers.proofs.Naming.{ends_at, first_or, goes_to, here, in_map, is_at, name_of, names_of, next_runs, no_zero, there, weigh_runs, zip_at, zip_long}
 use Rattle.hp_layers.proofs.Naming.{zip_on}
-use Rattle.hp_layers.proofs.Weighing.{more_of_both, weigh_push}
+use Rattle.hp_layers.proofs.Weighing.{weigh_push}
 
 pub zip_push : {X Y : Type 0} (R : X → Y → Type 0) (xs : List X) (ys : List Y) (x : X) (y : Y) → AllZip R xs ys → R x y
     → AllZip R (xs ++ x ∷ []) (ys ++ y ∷ [])

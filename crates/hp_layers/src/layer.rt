@@ -37,7 +37,7 @@ fn add<M: Turns>(
 }
 
 /// Adds each of the states, unless one with its key is there.
-fn add_all<M: Turns>(
+pub(crate) fn add_all<M: Turns>(
     alloc: Global,
     system: &M,
     seen: &mut HashSet<M::Key>,

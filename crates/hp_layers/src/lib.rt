@@ -6,6 +6,7 @@
 //! layers at a time, and ends where one is empty, or where its limits run out.
 #![tactic(auto)]
 
+mod alone;
 mod counting;
 mod ending;
 mod layer;
@@ -16,6 +17,7 @@ mod searching;
 mod turns;
 mod verdict;
 
+pub use alone::search_alone;
 pub use counting::RunCounts;
 pub use ending::{EndingTable, Ends, endings};
 pub use limits::Limits;

@@ -2,7 +2,7 @@
 use Rattle.std.proofs.Common.{◌≡◌, ◌∙◌, ℕ, ◌+◌, ◌<◌, refl, ap, sym, subst, inl, inr, arith, List, [], ◌∷◌, ◌++◌, length, take}
 use Rattle.std.specs.Cmp.Lexicographic.{bytes_decides, nat_list_eq_equiv, pointwise}
 use Rattle.std.proofs.lemmas.Map.Views.{list_any-from_Contains}
-use Rattle.std.specs.Prelude.{◌↔◌, ◌⊎◌, ◌==◌, nat_eq, All, Bool, None, true, false, slice_index_or}
+use Rattle.std.specs.Prelude.{◌↔◌, ◌⊎◌, ◌==◌, nat_eq, All, Bool, IfOk, None, Result, Ok, Err, true, false, slice_index_or}
 use Rattle.std.proofs.lemmas.List.{take_more}
 use Rattle.std.proofs.lemmas.List.Elements.{Contains-append_left, Contains-get_or, Contains-push, Contains-push_cases}
 use Rattle.std.proofs.lemmas.Bool.Decides.{nat_tests}
@@ -28,7 +28,8 @@ use Rattle.hp_every.proofs.Good.{run_of}
 use Rattle.hp_every.proofs.Runs.{event_count}
 use Rattle.hp_every.proofs.Sames.{last_core}
 use Rattle.hp_search.specs.declared.position.Position.{Position}
-use Rattle.hp_search.specs.Searching.{AreKeysOf, AreLong, HasEvents, IsAt, IsTooMany, place_of}
+use Rattle.hp_search.specs.declared.reachability.Reachability.{Reachability}
+use Rattle.hp_search.specs.Searching.{AreKeysOf, AreLong, HasEvents, IsAt, IsSearched, IsTooMany, IsWithin, place_of}
 use Rattle.hp_search.proofs.Made.{has_at}
 
 -- ---- whether it meets all conditions
@@ -179,3 +180,10 @@ at_limit a limits first path none n cut = elim cut [
     many = crowd.many;
   })
 ]
+
+-- an answer that keeps whatever limits its search was cut at keeps those that it had
+pub at_limits : {E : Type 0} (a : Question) (limits : Limits) (verdict : Verdict PathState) (r : Result Reachability E)
+    → IfOk r (λ answer. (l : Limits) → IsSearched a l verdict → IsWithin a l answer) → IsSearched a limits verdict
+    → IfOk r (IsWithin a limits)
+at_limits a limits verdict (Ok answer) h searched = h limits searched
+at_limits a limits verdict (Err e) h searched = tt

@@ -4,7 +4,7 @@ ghost use Rattle.std.proofs.Common.{sym};
 ghost use Rattle.std.specs.Cmp.Lexicographic.{bytes_decides};
 ghost use Rattle.hp_every.proofs.Good.{as_good, by_key};
 ghost use Rattle.hp_every.specs.Search.{AreAsGood, GoesOn, HasTurns, IsPath};
-ghost use Rattle.hp_search.specs.Searching.{HasEvents, IsAnswer, IsQuery, IsWithin, question, question_of};
+ghost use Rattle.hp_search.specs.Searching.{HasEvents, IsAnswer, IsQuery, IsSearched, IsWithin, question, question_of};
 
 use crate::following::follow;
 use crate::key::Key;
@@ -66,7 +66,7 @@ pub struct Budget {
 }
 
 /// The schedule of no turn.
-fn first_path(alloc: Global, query: Query) -> Result<Path, AllocError>
+pub(crate) fn first_path(alloc: Global, query: Query) -> Result<Path, AllocError>
     requires planned { IsQuery query }
     ensures path { IfOk result (IsPath (question_of query.entry)) }
     ensures turns { IfOk result (λ path. path.turns ≡ []) }
@@ -87,6 +87,30 @@ fn events_of(alloc: Global, query: Query, turns: &[Turn]) -> Result<Vec<Event>, 
     let mut events = Vec::with_capacity(alloc, turns.len())?;
     follow(alloc, query, turns, &mut events)?;
     Ok(events)
+}
+
+/// What a search says of the schedules that are asked for.
+pub(crate) fn reachability_of(
+    alloc: Global,
+    query: Query,
+    verdict: Verdict<Path>,
+) -> Result<Reachability, AllocError>
+    requires planned { IsQuery query }
+    requires searched { (limits : Limits) × IsSearched (question_of query) limits verdict }
+    ensures answer { IfOk result (IsAnswer (question_of query.entry)) }
+    ensures within { IfOk result (λ answer. (limits : Limits) → IsSearched (question_of query.entry) limits verdict
+        → IsWithin (question_of query.entry) limits answer) }
+{
+    match verdict {
+        Verdict::Never => Ok(Reachability::Never),
+        Verdict::Cut { turns } => Ok(Reachability::Cut { turns }),
+        Verdict::Met { state, .. } => {
+            let _none: Option<Op> = None;
+            let events = events_of(alloc, query, &state.turns)?;
+            let config = query.script.config;
+            Ok(Reachability::Met(Trace { config, events }))
+        }
+    }
 }
 
 /// The shortest schedule of the script that meets all conditions, or that none does. Each place that schedules reach in so many turns is
@@ -113,14 +137,5 @@ pub fn find_every(
     };
     let first = first_path(alloc, query)?;
     let verdict = search(rt, alloc, &query, first, limits, progress)?;
-    match verdict {
-        Verdict::Never => Ok(Reachability::Never),
-        Verdict::Cut { turns } => Ok(Reachability::Cut { turns }),
-        Verdict::Met { state, .. } => {
-            let _none: Option<Op> = None;
-            let events = events_of(alloc, query, &state.turns)?;
-            let config = script.config;
-            Ok(Reachability::Met(Trace { config, events }))
-        }
-    }
+    reachability_of(alloc, query, verdict)
 }

@@ -6,6 +6,7 @@
 //! of each schedule, and makes them again. It knows no stream.
 #![tactic(auto)]
 
+mod alone;
 mod answers;
 mod closing;
 mod endings;
@@ -19,6 +20,7 @@ mod position;
 mod query;
 mod reachability;
 
+pub use alone::find_every_alone;
 pub use endings::{EndingRow, EndingRows};
 pub use exploring::explore_every;
 pub use finding::{Budget, find_every};

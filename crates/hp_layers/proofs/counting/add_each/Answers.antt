@@ -1,10 +1,7 @@
-use Rattle.std.proofs.Common.{◌≡◌, ◌∙◌, [], List, refl, sym, ap, subst, arith}
-use Rattle.std.specs.Prelude.{Some}
+use Rattle.std.proofs.Common.{◌≡◌, ◌∙◌, [], List, sym, ap, subst, arith}
 use Rattle.std.specs.HashMap.{get}
 use Rattle.std.proofs.lemmas.Grind.{common_steps}
 use Rattle.std.proofs.lemmas.List.Elements.{Contains-get_or}
-use Rattle.hp_layers.specs.Layers.{IsCovered}
-use Rattle.hp_layers.specs.Named.{IsIndexed}
 use Rattle.hp_layers.proofs.Covering.{AddsMost, adds_all, adds_none, adds_one, covered_by, valid_before, valid_last, valid_on}
 use Rattle.hp_layers.proofs.Indexing.{have_one_place, indexed_more, indexed_within, keeps_none, keeps_on, placed, puts_keep, puts_some}
 use Rattle.hp_layers.proofs.Spreading.{adds_rest_all, adds_rest_more, adds_rest_none}

@@ -1,12 +1,11 @@
 use Rattle.std.proofs.Common.{◌≡◌, ◌∙◌, ℕ, ◌+◌, ◌<◌, List, length, get_or, inl, inr, refl, sym, ap, subst, arith}
-use Rattle.std.specs.Prelude.{◌==◌, None, Some, cond, min}
+use Rattle.std.specs.Prelude.{◌==◌, Some, cond, min}
 use Rattle.std.specs.HashMap.{get}
 use Rattle.std.proofs.lemmas.Grind.{common_steps}
 use Rattle.std.proofs.lemmas.List.{get_or_default}
 use Rattle.hp_layers.specs.Named.{PutsAtEnd}
 use Rattle.hp_layers.specs.Weighed.{IsAsMany, most}
 use Rattle.hp_layers.proofs.Indexing.{push_way, set_way}
-use Rattle.hp_layers.proofs.Spreading.{spread_first}
 use Rattle.hp_layers.proofs.Weighing.{place_within}
 use Rattle.hp_layers.proofs.counting.add_ways.Goals as goal
 

@@ -1,5 +1,5 @@
-use Rattle.std.proofs.Common.{◌≡◌, ◌∙◌, [], ◌∷◌, ℕ, refl, sym, ap, subst}
-use Rattle.std.specs.Prelude.{None, Option, Some}
+use Rattle.std.proofs.Common.{◌≡◌, ◌∙◌, sym}
+use Rattle.std.specs.Prelude.{Option, Some}
 use Rattle.std.specs.HashMap.{get}
 use Rattle.hp_layers.proofs.Indexing.{have_one_place, indexed_more, indexed_within}
 use Rattle.hp_layers.proofs.Seating.{adds_no_seat, adds_one_seat, takes_none_of, takes_put}

@@ -1,8 +1,6 @@
-use Rattle.std.proofs.Common.{arith, ◌≡◌, ◌<◌, ◌≤◌, ◌+◌, ◌∙◌, sym, ap, ◌++◌, ◌∷◌, [], ℕ, subst, length, get_or, List, take}
+use Rattle.std.proofs.Common.{arith, ◌<◌, ◌+◌, sym, ap, [], ℕ, subst, length, get_or, List, take}
 use Rattle.std.specs.List.{list_any}
 use Rattle.std.specs.HashSet.{contains}
-use Rattle.std.proofs.lemmas.Grind.{common_steps}
-use Rattle.std.proofs.lemmas.List.{take_all}
 use Rattle.hp_layers.specs.Layers.{AreAllAfter, AreNext}
 use Rattle.hp_layers.proofs.Covering.{after_one, are_valid, lacks_room, next_of_none, next_on, none_counted, none_stand, none_valid}
 use Rattle.hp_layers.proofs.Covering.{valid_after}

@@ -1,0 +1,83 @@
+use Rattle.std.proofs.Common.{arith, ◌<◌, ◌∙◌, sym, ap, [], subst, length, List, take}
+use Rattle.std.specs.List.{list_any}
+use Rattle.std.specs.HashSet.{contains}
+use Rattle.hp_layers.specs.Layers.{AreAllAfter, AreNext}
+use Rattle.hp_layers.proofs.Covering.{after_one, are_valid, lacks_room, next_of_none, next_on, none_counted, none_stand, none_valid}
+use Rattle.hp_layers.proofs.Covering.{valid_after}
+use Rattle.hp_layers.proofs.Portions.{item_at, item_there, take_item}
+use Rattle.hp_layers.proofs.alone.next_layer_alone.Goals as goal
+
+pub loop-place-init : goal.loop-place-init
+loop-place-init g c =
+    let turn = g.M.Turns.turn c.args.system.now in
+    let alike = g.M.Turns.alike c.args.system.now in
+    let eq = g.M.Key.PartialEq.eq in
+    record {
+      stand = none_stand eq (g.M.Turns.key_of c.args.system.now) (contains eq c.new-seen.result) c.new-next.result.items
+          (λ k. ap (list_any (eq k)) c.new-seen.ensures.empty);
+      next = subst (λ (l : List _). AreNext turn alike [] l) (sym c.new-next.ensures.items) (next_of_none turn alike);
+      valid = none_valid (g.M.Turns.valid c.args.system.now) c.new-next.result.items c.new-next.ensures.items;
+      counted = none_counted eq c.new-seen.result.keys c.new-next.result.items c.new-seen.ensures.empty c.new-next.ensures.items;
+    }
+
+pub add_all-requires-clause-states : goal.add_all-requires-clause-states
+add_all-requires-clause-states g c κs live =
+    let turns = g.met.M.Turns in
+    let turn = g.M.Turns.turn c.args.system.now in
+    let alike = g.M.Turns.alike c.args.system.now in
+    let valid = g.M.Turns.valid c.args.system.now in
+    let good = turns.as_good c.args.system.now in
+    let layer = c.args.layer.now in
+    let k = c.loop-place.place in
+    let after = c.in_ok-after.after.items in
+    let there : k < length layer = c.loop-place-test.true in
+    let s = item_at layer k there in
+    valid_after valid turn alike s.0 after good.stays (are_valid valid layer c.requires.layer s.0 (item_there layer k there))
+    (subst (λ (x : _). AreAllAfter turn alike x after) (c.index-layer-place.is ∙ s.1 c.index-layer-place.result) c.in_ok-after.ensures)
+
+pub loop-place-preserved : goal.loop-place-preserved
+loop-place-preserved g c =
+    let turns = g.met.M.Turns in
+    let turn = g.M.Turns.turn c.args.system.now in
+    let alike = g.M.Turns.alike c.args.system.now in
+    let good = turns.as_good c.args.system.now in
+    let layer = c.args.layer.now in
+    let k = c.loop-place.place in
+    let after = c.in_ok-after.after.items in
+    let new = c.add_all.new.next.items in
+    let was = c.loop-place.invariant in
+    let there : k < length layer = c.loop-place-test.true in
+    let s = item_at layer k there in
+    let right = subst (λ (x : _). AreAllAfter turn alike x after) (c.index-layer-place.is ∙ s.1 c.index-layer-place.result) c.in_ok-after.ensures in
+    record {
+      stand = c.in_ok-add_all.ensures.stand;
+      next = subst (λ (l : List _). AreNext turn alike l new) (sym (take_item layer k there))
+          (next_on turn alike (take k layer) c.loop-place.next.items after new s.0 good.onward was.next right c.in_ok-add_all.ensures.added);
+      valid = c.in_ok-add_all.ensures.next;
+      counted = c.in_ok-add_all.ensures.counted;
+    }
+
+pub returns-then-len-room-clause-none : goal.returns-then-len-room-clause-none
+returns-then-len-room-clause-none g c =
+    let turn = g.M.Turns.turn c.args.system.now in
+    let alike = g.M.Turns.alike c.args.system.now in
+    let layer = c.args.layer.now in
+    let k = c.loop-place.place in
+    let after = c.in_ok-after.after.items in
+    let there : k < length layer = c.loop-place-test.true in
+    let s = item_at layer k there in
+    let right = subst (λ (x : _). AreAllAfter turn alike x after) (c.index-layer-place.is ∙ s.1 c.index-layer-place.result) c.in_ok-after.ensures in
+    lacks_room g.M.Key.PartialEq.eq (g.M.Turns.key_of c.args.system.now) turn layer c.add_all.new.next.items c.add_all.new.seen.keys
+    c.args.room c.in_ok-add_all.ensures.counted c.in_ok-add_all.ensures.stand (grind (arith, c.if-len-room.true, c.len.ensures))
+    (λ t. after_one turn alike layer c.loop-place.next.items after c.add_all.new.next.items k s.0 t (item_there layer k there)
+    c.loop-place.invariant.next right c.in_ok-add_all.ensures.added)
+
+pub after-requires : goal.after-requires
+after-requires g c =
+    let valid = g.M.Turns.valid c.args.system.now in
+    let layer = c.args.layer.now in
+    let k = c.loop-place.place in
+    let there : k < length layer = c.loop-place-test.true in
+    let s = item_at layer k there in
+    subst valid (sym (c.index-layer-place.is ∙ s.1 c.index-layer-place.result))
+    (are_valid valid layer c.requires.layer s.0 (item_there layer k there))
