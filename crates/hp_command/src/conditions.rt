@@ -2,27 +2,17 @@
 use crate::choices::{ANSWER, ANYWHERE, AT, BLOCKED, FINAL, MEET, REST};
 use crate::commands::{Row, complaint, invalid};
 use crate::options::Choice;
-use crate::sought::{answer_at, answer_of, blocked_of, final_of, meeting_of};
 use clap::error::ErrorKind;
 use clap::{ArgMatches, Error};
 use hp_base::{File, Task};
+use hp_conditions::{Kind, at_rest, must_rest, next_choice, push_alternatives};
 use hp_core::Phase;
 use hp_hunt::{
-    AnswerName, AnswerWord, CallChoice, Comparison, Condition, LinuxAnswer, PoolCount, Relation,
-    Sought, SoughtAnswer,
+    AnswerName, AnswerWord, CallChoice, Comparison, Condition, LinuxAnswer, PoolCount, Sought,
+    SoughtAnswer,
 };
 use hp_watch::CallWord;
 use std::alloc::Global;
-
-// The options that say conditions.
-#[derive(Clone, Copy)]
-enum Kind {
-    Answer,
-    At,
-    Blocked,
-    Meet,
-    Final,
-}
 
 const KINDS: [Kind; 5] = [
     Kind::Answer,
@@ -54,91 +44,24 @@ const COUNTS: &str =
     "COUNT is resv, free or used, or of file F reserved:F or pages:F; then comes =, <, <=, > or >=, and N a number; \
 no count is below 0";
 
-impl Kind {
-    fn choice(self) -> Choice {
-        match self {
-            Kind::Answer => ANSWER,
-            Kind::At => AT,
-            Kind::Blocked => BLOCKED,
-            Kind::Meet => MEET,
-            Kind::Final => FINAL,
-        }
-    }
-
-    fn values(self) -> &'static str {
-        match self {
-            Kind::Answer => ANSWERS,
-            Kind::At => COUNTED_ANSWERS,
-            Kind::Blocked => TASKS,
-            Kind::Meet => MEETINGS,
-            Kind::Final => COUNTS,
-        }
-    }
-
-    fn sought(self, text: &str) -> Option<Sought> {
-        match self {
-            Kind::Answer => answer_of(text),
-            Kind::At => answer_at(text),
-            Kind::Blocked => blocked_of(text),
-            Kind::Meet => meeting_of(text),
-            Kind::Final => final_of(text),
-        }
+fn choice(kind: Kind) -> Choice {
+    match kind {
+        Kind::Answer => ANSWER,
+        Kind::At => AT,
+        Kind::Blocked => BLOCKED,
+        Kind::Meet => MEET,
+        Kind::Final => FINAL,
     }
 }
 
-// One alternative. Behind `not` it is not to be found.
-fn condition_of(kind: Kind, text: &str, choice: u32) -> Option<Condition> {
-    let (wanted, form) = match text.split_once(' ') {
-        Some((first, rest)) if first == "not" => (false, rest),
-        _ => (true, text),
-    };
-    Some(Condition {
-        sought: kind.sought(form)?,
-        wanted,
-        choice,
-    })
-}
-
-// The number of the next value's alternatives: no two of those that are given have one.
-fn next_choice(conditions: &[Condition]) -> u32 {
-    u32::try_from(conditions.len()).unwrap_or(u32::MAX)
-}
-
-// Adds the alternatives of one value of an option.
-fn push_choice(
-    alloc: Global,
-    row: &Row,
-    kind: Kind,
-    text: &str,
-    conditions: &mut Vec<Condition>,
-) -> Result<(), Error> {
-    // The checker of borrows asks for a mention of the types that a condition may hold.
-    let _parts: (Option<Task>, Option<File>, Option<Phase>, Option<Sought>) = (
-        None, None, None, None,
-    );
-    let _counts: (Option<PoolCount>, Option<Comparison>) = (None, None);
-    let _answers: (Option<SoughtAnswer>, Option<CallChoice>, Option<AnswerName>) = (
-        None, None, None,
-    );
-    let _names: (Option<CallWord>, Option<AnswerWord>, Option<LinuxAnswer>) = (None, None, None);
-    let choice = next_choice(conditions.as_slice());
-    let mut left = Some(text);
-    // (a text has one alternative more than it has bars, at most)
-    for _ in 0..=text.len() {
-        let Some(now) = left else {
-            return Ok(());
-        };
-        let (one, rest) = match now.split_once('|') {
-            Some((one, rest)) => (one, Some(rest)),
-            None => (now, None),
-        };
-        match condition_of(kind, one, choice) {
-            Some(condition) => conditions.push(condition)?,
-            None => return Err(invalid(alloc, row, &kind.choice(), kind.values(), text)?),
-        }
-        left = rest;
+fn values(kind: Kind) -> &'static str {
+    match kind {
+        Kind::Answer => ANSWERS,
+        Kind::At => COUNTED_ANSWERS,
+        Kind::Blocked => TASKS,
+        Kind::Meet => MEETINGS,
+        Kind::Final => COUNTS,
     }
-    Ok(())
 }
 
 // Adds the conditions that the option says.
@@ -149,32 +72,25 @@ fn push_conditions(
     kind: Kind,
     conditions: &mut Vec<Condition>,
 ) -> Result<(), Error> {
-    let Some(texts) = given.get_strs(kind.choice().name) else {
+    let Some(texts) = given.get_strs(choice(kind).name) else {
         return Ok(());
     };
     for text in texts {
-        push_choice(alloc, row, kind, text, conditions)?;
+        if !push_alternatives(kind, text.as_bytes(), conditions)? {
+            return Err(invalid(alloc, row, &choice(kind), values(kind), text)?);
+        }
     }
     Ok(())
 }
 
-// No call is in flight at the end.
-fn at_rest(choice: u32) -> Condition {
-    Condition {
-        sought: Sought::Final(Comparison {
-            count: PoolCount::Calls,
-            relation: Relation::Equal,
-            number: 0,
-        }),
-        wanted: true,
-        choice,
-    }
-}
-
 // Whether calls in flight at the end are excluded: that is said, or counts at the end are asked for and nothing else is said.
 fn is_at_rest(given: &ArgMatches) -> bool {
-    given.get_flag(REST.name)
-        || given.get_strs(FINAL.name).is_some() && !given.get_flag(ANYWHERE.name)
+    let counts = given.get_strs(FINAL.name).is_some();
+    must_rest(
+        given.get_flag(REST.name),
+        counts,
+        given.get_flag(ANYWHERE.name),
+    )
 }
 
 /// The conditions that are given to that command, of which there is one at least.

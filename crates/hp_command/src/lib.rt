@@ -11,7 +11,6 @@ mod conditions;
 mod options;
 mod reading;
 mod request;
-mod sought;
 mod texts;
 mod view;
 
