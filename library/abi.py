@@ -10,14 +10,12 @@ until --write adds it; --write never takes one away. Each call has a line in the
 from __future__ import annotations
 
 import re
-import subprocess
 import sys
-import tempfile
-from pathlib import Path
 from typing import Iterator
 
-TOP = Path(__file__).resolve().parent.parent
-HEADER, LIST = TOP / "library" / "include" / "hugepool.h", TOP / "library" / "abi.txt"
+from header import HEADER, TOP, ran, unnoticed
+
+LIST = TOP / "library" / "abi.txt"
 SYMBOLS = TOP / "packaging" / "debian" / "libhugepool1.symbols"
 PROTOTYPE = re.compile(r"^(\w+) (hugepool_\w+)\((.*?)\);", re.DOTALL | re.MULTILINE)
 STRUCT = re.compile(r"^typedef struct (hugepool_\w+) \{\n(.*?)\n\} \1;", re.DOTALL | re.MULTILINE)
@@ -54,13 +52,10 @@ def printing(header: str) -> Iterator[str]:
 
 def lines_of(header: str) -> list[str]:
     """All lines of a header."""
-    program = ["#include <stdio.h>", '#include "hugepool.h"', "int main(void) {", *printing(header), "return 0; }"]
-    with tempfile.TemporaryDirectory() as name:
-        (Path(name) / "hugepool.h").write_text(header, encoding="utf-8")
-        (Path(name) / "program.c").write_text("\n".join(program), encoding="utf-8")
-        subprocess.run(["cc", "-o", "program", "program.c"], cwd=name, check=True)
-        ran = subprocess.run([Path(name) / "program"], capture_output=True, text=True, check=True)
-    return [*calls(header), *ran.stdout.splitlines()]
+    program = ran(header, "\n".join(["#include <stdio.h>", "int main(void) {", *printing(header), "return 0; }"]))
+    if program.returncode:
+        sys.exit(f"{program.stderr}abi: the header doesn't compile")
+    return [*calls(header), *program.stdout.splitlines()]
 
 
 def against(header: str, listed: list[str]) -> list[str]:
@@ -86,12 +81,9 @@ def main(words: list[str]) -> int:
     for it in sorted(named ^ {name for _, name, _ in PROTOTYPE.findall(header)}):
         print(f"abi: only one of the header and {SYMBOLS.relative_to(TOP)} has {it}")
         failed += 1
-    for old, new in FAULTS:
-        if header.count(old) != 1:
-            sys.exit(f"abi: {old!r} stands in the header {header.count(old)} times")
-        is_seen = bool(against(header.replace(old, new), listed))
-        passed, failed = passed + is_seen, failed + (not is_seen)
-        print("" if is_seen else f"abi: a header with {new!r} isn't noticed\n", end="")
+    unseen = unnoticed("abi", header, FAULTS, lambda it: against(it, listed))
+    passed, failed = passed + len(FAULTS) - len(unseen), failed + len(unseen)
+    print("".join(f"{it}\n" for it in unseen), end="")
     print(f"{passed} passed, {failed} failed")
     return 1 if failed else 0
 

@@ -5,8 +5,8 @@ usage: library/check.py [--events N]
 
 It builds the proved archive, a heap over malloc and the programs of library/examples and library/tests. Then, on the traces of examples/:
 outcomes, with a branch at each moment at rest, and texts are those beside the trace, to the byte, and pictures those of docs/pictures; and
-of each trace that isn't long each growth of memory is refused once, and pools that run it go from thread to thread. Then calls that name
-nothing, closed pools, the largest pool, rooms that are too small, and N events of random numbers (200,000; a long try is 10,000,000); and
+of each trace that isn't long each growth of memory is refused once, and pools that run it go from thread to thread. Then the searches of
+examples/commands; calls that name nothing, closed pools, the largest pool, rooms that are too small, and N events of random numbers (200,000; a long try is 10,000,000); and
 that the library has no variables, which threads would share.
 
 At last the crates for Rust, where there is cargo, each way that they find the library; the Python module, where there is pytest; a wheel
@@ -26,6 +26,7 @@ from pathlib import Path
 from typing import Iterator
 
 import archive
+import searched
 import shown
 from archive import ARCHIVE, TOP
 
@@ -41,9 +42,9 @@ def build(room: Path) -> None:
         archive.prove("library")
     except archive.Failed as why:
         sys.exit(str(why))
-    for source in "examples/branches", "tests/texts", "tests/misuse", "tests/refused", "tests/threads":
+    for source in "examples/branches", "tests/texts", "tests/misuse", "tests/refused", "tests/searches", "tests/threads":
         to = room / Path(source).name
-        more = [] if source == "tests/refused" else [LIBRARY / "heap.c"]
+        more = [] if source in ("tests/refused", "tests/searches") else [LIBRARY / "heap.c"]
         words = ["cc", *SANITIZED, "-I", LIBRARY / "include", "-o", to, LIBRARY / f"{source}.c", *more, ARCHIVE]
         ran = subprocess.run(words, stdout=subprocess.PIPE, stderr=subprocess.STDOUT, text=True)
         if ran.returncode:
@@ -215,6 +216,26 @@ def try_trace(room: Path, trace: Path) -> Iterator[tuple[str, bool, str]]:
         yield "threads", code == 0 and (told != b"0 changes of threads\n") == bool(wanted), complaint.decode()
 
 
+def try_search(room: Path, number: int, row: searched.Search) -> tuple[bool, str]:
+    """Whether a search by the library ends as the row says, with a growth refused in turn, and what it said."""
+    text = room / f"search-{number}"
+    text.write_text(row.text, encoding="utf-8")
+    search, *more = row.words
+    code, told, complaint = run(room / "searches", search, text, *more)
+    return code == row.status and told == row.wanted.encode(), complaint.decode()
+
+
+def try_searches(room: Path) -> tuple[int, int]:
+    """The searches of examples/commands, whose outputs are written by hand."""
+    rows = searched.searches(TOP / "examples" / "commands")
+    with ThreadPoolExecutor(os.cpu_count() or 1) as pool:
+        told = list(pool.map(lambda it: try_search(room, *it), enumerate(rows)))
+    for row, (is_well, complaint) in zip(rows, told):
+        print("" if is_well else f"library: {row.name}: {complaint or 'another text'}\n", end="")
+    wrong = sum(not is_well for is_well, _ in told)
+    return len(rows) - wrong, wrong + (not rows)
+
+
 def main() -> int:
     words = argparse.ArgumentParser(description=__doc__, formatter_class=argparse.RawDescriptionHelpFormatter)
     words.add_argument("--events", type=int, default=200_000, metavar="N", help="events of random numbers (200000)")
@@ -233,7 +254,7 @@ def main() -> int:
             code, told, complaint = run(room / program, str(asked.events), seed)
             passed, failed = passed + (code == 0), failed + (code != 0)
             print(f"library: {told.decode() or complaint.decode()}", end="")
-        for tried in (try_exports, try_variables, try_rust, try_python, try_wheel, try_page):
+        for tried in (try_searches, try_exports, try_variables, try_rust, try_python, try_wheel, try_page):
             well, wrong = tried(room)
             passed, failed = passed + well, failed + wrong
     print(f"{passed} passed, {failed} failed")

@@ -15,7 +15,7 @@ import subprocess
 import sys
 import tempfile
 from pathlib import Path
-from typing import Iterator
+from typing import Callable, Iterator
 
 TOP = Path(__file__).resolve().parent.parent
 HEADER = TOP / "library" / "include" / "hugepool.h"
@@ -44,7 +44,8 @@ ODD = {
     "FOUND_NOTHING": r"^finding_number \(Ok done\) = (\d+)",
     "PHASE_NONE": r"^phase_or_none None = (\d+)",
 }
-CODE = re.compile(r"^(ok|is_closed|no_memory|no_such|in_flight|bad_line|bad_header|too_small) = (\d+)", re.MULTILINE)
+CODES = "ok|is_closed|no_memory|no_such|in_flight|bad_line|bad_header|too_small|bad_condition|none_meets|limit_reached"
+CODE = re.compile(rf"^({CODES}) = (\d+)", re.MULTILINE)
 SIZES = {"u64": 8, "i64": 8, "usize": 8, "*mut u8": 8, "u32": 4, "bool": 1}
 C_TYPES = {"u32": "uint32_t", "usize": "size_t", "bool": "bool", "u8": "uint8_t"}
 WORDS = [TOP / "crates" / it / "specs" / "Text.antt" for it in ("hp_base", "hp_machine")]
@@ -182,16 +183,22 @@ def versions() -> list[int]:
     return [int(it) for it in found["library/include/hugepool.h"].split(".")]
 
 
-def compiles(header: str, program: str) -> str:
-    """What is said against a program with this header: by the compiler, and by itself."""
+def ran(header: str, program: str) -> subprocess.CompletedProcess[str]:
+    """A program with this header, as it was run; or its compiler, where that refuses it."""
     with tempfile.TemporaryDirectory() as name:
         (Path(name) / "hugepool.h").write_text(header, encoding="utf-8")
         (Path(name) / "program.c").write_text(f'#include "hugepool.h"\n{program}\n', encoding="utf-8")
         words = ["cc", "-std=c11", "-Wall", "-Wextra", "-Werror", "-o", "program", "program.c"]
-        ran = subprocess.run(words, cwd=name, capture_output=True, text=True)
-        if ran.returncode == 0:
-            ran = subprocess.run([Path(name) / "program"], capture_output=True, text=True)
-    return ran.stdout + ran.stderr
+        it = subprocess.run(words, cwd=name, capture_output=True, text=True)
+        return it if it.returncode else subprocess.run([Path(name) / "program"], capture_output=True, text=True)
+
+
+def unnoticed(script: str, header: str, faults: list[tuple[str, str]], against: Callable[[str], object]) -> list[str]:
+    """Lines about those of a header's faults, each a text and what it becomes, against which nothing is said."""
+    for old, _ in faults:
+        if header.count(old) != 1:
+            sys.exit(f"{script}: {old!r} stands in the header {header.count(old)} times")
+    return [f"{script}: a header with {new!r} isn't noticed" for old, new in faults if not against(header.replace(old, new))]
 
 
 def saying(named: dict[str, str], numbers: list[int]) -> str:
@@ -199,14 +206,15 @@ def saying(named: dict[str, str], numbers: list[int]) -> str:
     lines = [f'if (strcmp({call}, "{word}") != 0) printf("%s isn\'t {word}\\n", "{call}");' for call, word in named.items()]
     for word, number in zip(("MAJOR", "MINOR", "PATCH"), numbers):
         lines.append(f'if (HUGEPOOL_VERSION_{word} != {number}) puts("VERSION_{word} isn\'t {number}");')
-    lines.append("for (uint32_t code = 0; code < 8; code++) if (*hugepool_strerror(code) == '?') puts(\"a code has no words\");")
+    lines.append(f"for (uint32_t code = 0; code < {CODES.count('|') + 1}; code++) if (*hugepool_strerror(code) == '?') puts(\"a code has no words\");")
     return "\n".join(["#include <stdio.h>", "#include <string.h>", "int main(void)", "{", *lines, "return 0;", "}"])
 
 
 def against(header: str, numbers: dict[str, int], structs: dict[str, str], exports: list[str]) -> str:
     """What is wrong with a header."""
     asserted = [f'_Static_assert(HUGEPOOL_{name} == {number}, "{name}");' for name, number in numbers.items()]
-    told = compiles(header, "\n".join([*asserted, *layout(structs), *exports, saying(names(), versions())]))
+    tried = ran(header, "\n".join([*asserted, *layout(structs), *exports, saying(names(), versions())]))
+    told = tried.stdout + tried.stderr
     named = set(re.findall(r"\bHUGEPOOL_(\w+) = \d", header)) ^ numbers.keys()
     declared = {name for name, _ in PROTOTYPE.findall(header)} ^ {it.split("(")[0].split()[-1] for it in exports}
     return told + "".join(f"only one of header and sources has {it}\n" for it in sorted(named | declared))
@@ -219,12 +227,9 @@ def main() -> int:
     told = against(header, numbers, structs, exports)
     passed, failed = (len(numbers) + len(structs) + len(exports), 0) if not told else (0, 1)
     print(told, end="")
-    for old, new in FAULTS:
-        if header.count(old) != 1:
-            sys.exit(f"header: {old!r} stands in the header {header.count(old)} times")
-        is_seen = bool(against(header.replace(old, new), numbers, structs, exports))
-        passed, failed = passed + is_seen, failed + (not is_seen)
-        print("" if is_seen else f"a header with {new!r} isn't noticed\n", end="")
+    unseen = unnoticed("header", header, FAULTS, lambda it: against(it, numbers, structs, exports))
+    passed, failed = passed + len(FAULTS) - len(unseen), failed + len(unseen)
+    print("".join(f"{it}\n" for it in unseen), end="")
     [number] = re.findall(r"^version = (\d+)", read("specs/*.antt"), re.MULTILINE)
     first, second, third = versions()
     if int(number) != first * 1_000_000 + second * 1_000 + third:

@@ -56,7 +56,10 @@ enum hugepool_code {
     HUGEPOOL_IN_FLIGHT = 4,  /**< a call of a task is in flight */
     HUGEPOOL_BAD_LINE = 5,   /**< line *line isn't allowed in the trace */
     HUGEPOOL_BAD_HEADER = 6, /**< the first line is no header */
-    HUGEPOOL_TOO_SMALL = 7   /**< there is more to tell than there is room for */
+    HUGEPOOL_TOO_SMALL = 7,  /**< there is more to tell than there is room for */
+    HUGEPOOL_BAD_CONDITION = 8, /**< line *line of the conditions says none; if *line is 0, no line does */
+    HUGEPOOL_NONE_MEETS = 9,    /**< the trace, or nothing that was searched, meets the conditions */
+    HUGEPOOL_LIMIT_REACHED = 10 /**< the limits were reached first */
 };
 
 /** An open pool, or a closed one. All of zeroes it is closed. */
@@ -264,6 +267,21 @@ enum hugepool_finding {
     HUGEPOOL_FOUND_USED = 6
 };
 
+/** Which runs of a script are searched: run k goes by the generator that is seeded with seed + k, wrapping. */
+typedef struct hugepool_hunt_words {
+    uint64_t seed;  /**< the seed of run 0 */
+    uint32_t limit; /**< so many runs, from run 0 on */
+    uint32_t deny;  /**< the chance in 1000 that a step's allocation fails */
+    uint32_t kill;  /**< the chance in 1000 that a turn kills its task */
+} hugepool_hunt_words;
+
+/** Which schedules of a script are searched, and how far. */
+typedef struct hugepool_bounds_words {
+    uint32_t denials; /**< so many allocations fail in a schedule, at most */
+    uint32_t kills;   /**< so many tasks are killed in it, at most */
+    uint32_t states;  /**< so many states are kept at once, at most; some 500 bytes each */
+} hugepool_bounds_words;
+
 /* ---- a pool */
 
 /** Opens a pool of these sizes, to which nothing has happened. One that was open there is closed. NO_MEMORY; NO_SUCH if and only if a size
@@ -349,6 +367,39 @@ uint32_t hugepool_check(const uint8_t *trace, size_t length, uint32_t *events, u
  * or nothing is known to be wrong with it; NO_MEMORY. TOO_SMALL: *needed bytes of room are wanted, and else *needed is 0. */
 uint32_t hugepool_reason(const uint8_t *trace, size_t length, uint32_t line, uint8_t *out, size_t room, size_t *needed);
 
+/* ---- searches: what the program hugepool finds
+
+ * Conditions are a text: each line is an option of `hugepool find` without its dashes, as
+
+ *     answer 1:2=beyond|1:3=SIGBUS
+ *     at 1:2=noframe free>0
+ *     blocked 2
+ *     meet 1:want,2:evict
+ *     final not resv=0
+ *     rest
+
+ * or `anywhere`, which says that calls may be in flight at the end where a line `final` asks for a count there. A line break may end the
+ * last line. Each call stops at the first bad line of the conditions (BAD_CONDITION, *line), and only then reads the other text. It makes
+ * no thread; it returns when it is done, so bound what it may do.
+ */
+
+/** A small trace of those that the trace can be cut to, by dropping events and lowering numbers, and that still meet the conditions:
+ * without any one of its events, or with any of its numbers one less, it doesn't. NONE_MEETS if the trace itself doesn't. On OK the first
+ * *needed bytes of out are its text, and those behind are as they were. TOO_SMALL: *needed bytes of room are wanted. BAD_CONDITION;
+ * BAD_LINE and BAD_HEADER: *line is the trace's first bad line. NO_MEMORY. */
+uint32_t hugepool_minimize(const uint8_t *trace, size_t length, const uint8_t *conditions, size_t size, uint8_t *out, size_t room, size_t *needed,
+                           uint32_t *line);
+
+/** The trace of the first of these runs of the script that meets the conditions. On OK and TOO_SMALL *run is its number; else it is 0.
+ * NONE_MEETS if none of them does: to search on, add limit to seed. Else as hugepool_minimize, of a script in place of a trace. */
+uint32_t hugepool_find(const uint8_t *script, size_t length, const uint8_t *conditions, size_t size, const hugepool_hunt_words *hunt,
+                       uint8_t *out, size_t room, size_t *needed, uint32_t *line, uint32_t *run);
+
+/** The trace of a shortest of all schedules of the script that meet the conditions. NONE_MEETS if none does. LIMIT_REACHED: none of fewer
+ * than *turns turns does; *turns is 0 on any other code. Else as hugepool_find. */
+uint32_t hugepool_find_every(const uint8_t *script, size_t length, const uint8_t *conditions, size_t size, const hugepool_bounds_words *bounds,
+                             uint8_t *out, size_t room, size_t *needed, uint32_t *line, uint32_t *turns);
+
 /* ---- one line of a trace (hugepool-trace(5)), without its end */
 
 /** No line of a trace, an event or an outcome has more bytes. */
@@ -378,7 +429,8 @@ uint32_t hugepool_version(void);
 static inline const char *hugepool_strerror(uint32_t code)
 {
     static const char *const said[] = { "done", "the pool is closed", "there was no memory", "the numbers or the line name nothing",
-        "a call is in flight", "a line isn't allowed in the trace", "the first line is no header", "there is too little room" };
+        "a call is in flight", "a line isn't allowed in the trace", "the first line is no header", "there is too little room",
+        "a line of the conditions says none", "nothing meets the conditions", "the limits were reached first" };
     return code < sizeof said / sizeof *said ? said[code] : "?";
 }
 

@@ -58,7 +58,14 @@ class Browser {
     const ended = new Promise((done) => this.process.once("exit", done));
     this.process.kill();
     await ended;
-    fs.rmSync(this.profile, { recursive: true, force: true, maxRetries: 9 });
+    // (what the browser began may write for a moment more)
+    for (let tries = 0; tries < 50 && fs.existsSync(this.profile); tries++) {
+      try {
+        fs.rmSync(this.profile, { recursive: true, force: true });
+      } catch {
+        await wait(100);
+      }
+    }
   }
 }
 

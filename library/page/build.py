@@ -49,11 +49,11 @@ VERDICT = re.compile(r"^(logic=proved .*? sum=\w+)", re.MULTILINE)
 KINDS = {"uint32_t": ("u32", 4), "uint64_t": ("u64", 8), "int64_t": ("i64", 8), "size_t": ("size", 8), "void *": ("pointer", 8), "bool": ("bool", 1)}
 # each row of a table of examples/README.md: a name and what it shows
 SHOWN = re.compile(r"^\| `([\w-]+)` \| (.*?) \|", re.MULTILINE)
-# the picture of a run, which is also on the page of `draw --html`; the page around it follows
-VIEWER = TOP / "crates" / "hp_page" / "page"
-SCRIPTS = [VIEWER / f"{it}.js" for it in "dom run moments search places lanes marks curves picture viewer".split()]
-SCRIPTS += [PAGE / f"{it}.js" for it in "pool trace address rows own glossary tasks forms play texts files beside page".split()]
-STYLES = VIEWER / "viewer.css", PAGE / "page.css"
+# the picture of a run, which is also on the page of `draw --html`: constants of modules by these names; the page around it follows
+VIEWER, VIEWER_SCRIPTS = TOP / "crates" / "hp_page" / "src", ("run_script", "picture_script", "viewer_script")
+SCRIPTS = [PAGE / f"{it}.js" for it in "pool trace address rows own glossary tasks forms play texts files beside conditions asking finding page".split()]
+# what the page's worker runs, in which it searches
+SEARCHER = [PAGE / "pool.js", PAGE / "searcher.js"]
 # of docs/MACHINE.md, a row of the table of phases: the phase, and Linux's function
 LINUX = re.compile(r"^\| (\w+) \| `(\w+)` \| (?:`\w+` )?\|$", re.MULTILINE)
 
@@ -231,19 +231,25 @@ def origin_of(of: Module, wasm: bytes) -> dict[str, str]:
     return {"commit": commit, **of.origin, "wasm": hashlib.sha256(wasm).hexdigest(), "bytes": f"{len(wasm):,} bytes"}
 
 
-def script() -> str:
-    """The page's JavaScript as one module: the files in their order, without the lines by which they import each other."""
-    text = "\n".join(it.read_text(encoding="utf-8") for it in SCRIPTS)
+def viewer(name: str) -> str:
+    """A text of the picture's, which is a constant of the crate hp_page: what its module says between the quotes of the first."""
+    return re.search(r'r###"(.*?)"###', (VIEWER / f"{name}.rt").read_text(encoding="utf-8"), re.DOTALL)[1]
+
+
+def script(files: list[Path], *before: str) -> str:
+    """JavaScript as one module: what comes before, and files in their order, without the lines by which they import each other."""
+    text = "\n".join([*before, *(it.read_text(encoding="utf-8") for it in files)])
     return re.sub(r"^import .*\n", "", re.sub(r"^export ", "", text, flags=re.MULTILINE), flags=re.MULTILINE)
 
 
 def page(of: Module, wasm: bytes) -> str:
-    data = {"header": header(), "examples": examples(), "linux": linux(), "origin": origin_of(of, wasm), "wasm": base64.b64encode(wasm).decode()}
+    data = {"header": header(), "examples": examples(), "linux": linux(), "origin": origin_of(of, wasm), "searcher": script(SEARCHER)}
+    data["wasm"] = base64.b64encode(wasm).decode()
     parts = {
-        "style": "".join(it.read_text(encoding="utf-8") for it in STYLES),
-        **{it: (VIEWER / f"{it}.html").read_text(encoding="utf-8") for it in ("legend", "help", "search")},
+        "style": viewer("viewer_style") + (PAGE / "page.css").read_text(encoding="utf-8"),
+        **{"legend": viewer("legend"), "help": viewer("help"), "search": viewer("search_form")},
         "data": json.dumps(data, ensure_ascii=False, separators=(",", ":")).replace("</", "<\\/"),
-        "script": script(),
+        "script": script(SCRIPTS, *map(viewer, VIEWER_SCRIPTS)),
     }
     return re.sub(r"\{\{(\w+)\}\}", lambda it: parts[it[1]], (PAGE / "page.html").read_text(encoding="utf-8"))
 

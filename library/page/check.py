@@ -1,5 +1,5 @@
 #!/usr/bin/env python3
-"""Tries the page: functions of its own, its module on all traces of examples/, and clicks in browsers.
+"""Tries the page: functions of its own, its module on all traces of examples/ and its searches, and clicks in browsers.
 
 usage: library/page/check.py [PAGE.html]
 
@@ -8,6 +8,7 @@ CHROMIUM and FIREFOX name others of their kind. The last line is 'N passed, M fa
 """
 from __future__ import annotations
 
+import json
 import re
 import shutil
 import subprocess
@@ -17,6 +18,9 @@ from pathlib import Path
 
 PAGE = Path(__file__).resolve().parent
 TOP = PAGE.parent.parent
+sys.path.insert(0, str(PAGE.parent))
+import searched  # noqa: E402
+
 # by which node 20 has a memory of 64 bits; later versions have it without, or don't know the word
 MEMORY64 = "--experimental-wasm-memory64"
 COUNTS = re.compile(r"^(\d+) passed, (\d+) failed$", re.MULTILINE)
@@ -42,7 +46,9 @@ def main(words: list[str]) -> int:
         file = Path(words[0]) if words else Path(room) / "hugepool.html"
         if not words and subprocess.run([TOP / "page", file]).returncode:
             return 1
-        counts = [node(PAGE / it, file) for it in ("functions.mjs", "module.mjs", "clicks.mjs")]
+        searches = Path(room) / "searches.json"
+        searches.write_text(json.dumps([it._asdict() for it in searched.searches(TOP / "examples" / "commands")]), encoding="utf-8")
+        counts = [node(PAGE / "functions.mjs", file), node(PAGE / "module.mjs", file, searches), node(PAGE / "clicks.mjs", file)]
     passed, failed = (sum(it) for it in zip(*counts))
     print(f"{passed} passed, {failed} failed")
     return 1 if failed else 0

@@ -38,6 +38,8 @@ async function open(hash) {
 
 const act = (statements) => browser.run(`(() => { ${statements} })()`);
 
+const set = (selector, value) => act(`const it = document.querySelector("${selector}"); it.value = ${JSON.stringify(value)}; it.dispatchEvent(new Event("input", { bubbles: true }));`);
+
 async function choose(selector, value) {
   await act(`const it = document.querySelector(${JSON.stringify(selector)}); it.value = ${JSON.stringify(value)}; it.dispatchEvent(new Event("change"));`);
 }
@@ -123,7 +125,6 @@ async function tryEvents() {
 
 async function tryFields() {
   await open("#two-maps-one-lock@0");
-  const set = (selector, value) => act(`const it = document.querySelector("${selector}"); it.value = "${value}"; it.dispatchEvent(new Event("input", { bubbles: true }));`);
   for (const wrong of ["1e3", "01", "-1", "1.5", "4294967296", ""]) {
     await set("#begin-numbers input", wrong);
     await browser.click("#begin button");
@@ -158,6 +159,27 @@ async function tryTexts() {
   await act(`const it = document.getElementById("chance");
     for (let turns = 0; turns < 500 && it.getAttribute("aria-disabled") !== "true"; turns++) it.click();`);
   await expect("a script is played to its end", `${text("#counts")}.includes("calls in flight0") && Number(document.querySelector("#lines .row").getAttribute("aria-setsize")) > 40`);
+}
+
+/** A script whose call waits for calls of another task. */
+async function tryWaits() {
+  await open("#truncate-after-store");
+  const next = `${card(2)} .buttons .go:not([hidden])`;
+  await expect("a call waits by its script", `${text(next)} === "begin 2 trunc 0 2" && ${isOff(next)} && document.querySelector('${next}').title.includes("2 calls of task 1")`);
+  await act(`for (let turns = 0; turns < 100 && ${isOff(next)}; turns++) document.getElementById("chance").click();`);
+  await expect("it is due once they ended", `${text("#now")}.includes("step 1: ended done") && !${isOff(next)}`);
+  await browser.click("#link");
+  await expect("the link is there", `location.hash.startsWith("#script=")`);
+  await open(await browser.run("location.hash"));
+  await expect("a link keeps what waits", `!${isOff(next)}`);
+  await browser.click("#first");
+  await expect("which waits at the first moment", isOff(next));
+  const given = (lines) => act(`const files = new DataTransfer(); files.items.add(new File([${JSON.stringify(lines.join("\n"))}], "mine.script")); const it = document.getElementById("file");
+    it.files = files.files; it.dispatchEvent(new Event("change"));`);
+  await given(["script 4 1 4 2", "begin 1 map 0 0 1", "after 1", "begin 2 mop 0 0 1"]);
+  await expect("what is wrong with a script", `${text("#notice")}.startsWith('"begin 2 mop 0 0 1" is not allowed in a script: ')`);
+  await given(["script 4 1 4 2", "begin 1 map 0 0 1", "after 1", "begin 2 map 0 0 1"]);
+  await expect("a script that is opened", `${isAt(0, 0)} && ${text(next)} === "begin 2 map 0 0 1" && ${isOff(next)} && document.getElementById("notice").hidden`);
 }
 
 /** Playing, and the slider. */
@@ -216,13 +238,104 @@ async function tryFiles() {
   await open("#two-maps-one-lock@5");
   const script = await saved("save-script");
   await expect("a script of its begins alone", `${JSON.stringify(script)} === ${JSON.stringify("pool 4 1 4 2\nbegin 1 map 0 0 2\nbegin 2 map 0 1 3\n")}`);
+  await open("#truncate-after-store");
+  const example = fs.readFileSync(new URL("../../examples/truncate-after-store.script", import.meta.url), "utf8");
+  await expect("a script whose calls wait", `${JSON.stringify(await saved("save-script"))} === ${JSON.stringify(example)}`);
 }
 
-/** Commands that search all orders of the calls are for the files that are saved. */
-async function trySearches() {
+const asks = (...lines) => set("#conditions", lines.join("\n"));
+const areAsked = (...lines) => `document.getElementById("conditions").value === ${JSON.stringify(lines.join("\n"))}`;
+const isSaid = (words) => `${text("#search-said")} === ${JSON.stringify(words)}`;
+const word = (name) => act(`[...document.querySelectorAll("#condition-words button")].find((it) => it.textContent === "${name}").click();`);
+
+/** Conditions that are typed and picked. */
+async function tryConditions() {
   await open("#two-maps-one-lock@5");
-  await browser.click("#searching summary");
-  await expect("commands that search", `${text("#searches")}.includes("hugepool explore --every two-maps-one-lock.script")`);
+  await browser.click("#minimize");
+  await expect("there has to be a condition", `${text("#condition-fault")} === "No line says a condition yet." && document.activeElement.id === "conditions"`);
+  await asks("", "blocked *", "", "blocked 0");
+  await expect("the first line that is none", `${text("#condition-fault")}.startsWith('Line 4 is no condition: "blocked 0".') && document.getElementById("conditions").getAttribute("aria-invalid") === "true"`);
+  await browser.click("#minimize");
+  await expect("it is picked", `(() => { const it = document.getElementById("conditions"); return it.value.slice(it.selectionStart, it.selectionEnd) === "blocked 0"; })()`);
+  await asks("blocked *");
+  await expect("the fault goes", `document.getElementById("condition-fault").hidden`);
+  await word("at");
+  await choose("#condition-fields [name=call]", "map");
+  await set("#condition-fields [name=number]", "3");
+  await browser.click("#condition-not");
+  await browser.click("#condition fieldset button");
+  await expect("a condition that is picked", `${areAsked("blocked *", "at not *:map=SIGBUS free=3")} && document.getElementById("condition-fault").hidden`);
+  await word("meet");
+  await browser.click("#condition fieldset button");
+  await expect("two tasks are two", areAsked("blocked *", "at not *:map=SIGBUS free=3", "meet 1:start,2:start"));
+  await expect("the program's commands have them", `${text("#searches")}.includes("hugepool find --every --blocked '*' --at 'not *:map=SIGBUS free=3' --meet 1:start,2:start two-maps-one-lock.script")`);
+  await choose("#condition-example", "rest");
+  await expect("an example", areAsked("rest"));
+}
+
+/** Searches, and what they find. What they say of examples is what docs/EXPLORING.md has. */
+async function tryFinding() {
+  await open("#truncate-against-fault");
+  await asks("blocked 2", "answer 1:2=beyond");
+  await browser.click("#find");
+  await expect("a run is found", `${isSaid("Run 4 (seed 5) is the first that meets all conditions, with 30 events. Find goes on behind it. It is shown now.")} && ${isAt(30, 30)}`);
+  await expect("the next search goes on", `document.getElementById("search-seed").value === "6" && document.getElementById("beside").hidden && ${isOff("#stop-search")}`);
+  await act(`document.getElementById("conditions").focus();`);
+  await browser.press("Enter", { ctrl: true });
+  await expect("another is found beside it", `/^Run \\d+ \\(seed \\d+\\) .* stands beside it below\\.$/.test(${text("#search-said")}) && ${text("#parting")}.startsWith("The runs are one up to line ")`);
+  await browser.click("#undo");
+  await expect("which is undone", isAt(30, 30));
+  await open("#two-files-one-quota");
+  await asks("answer 1:1=done", "answer 2:1=done");
+  await browser.click("#every");
+  await expect("no schedule", isSaid("No schedule of these calls meets all conditions."));
+  await open("#balloon-against-guest");
+  await asks("at *:*=SIGBUS resv>0");
+  await browser.click("#every");
+  await expect("a shortest schedule", `${text("#search-said")}.startsWith("A shortest schedule that meets all conditions has ") && ${text("#now")}.includes("ended noframe") && ${text("#counts")}.includes("free2resv2")`);
+}
+
+async function tryMinimizing() {
+  await open("#two-maps-one-lock");
+  await asks("blocked 2");
+  await browser.click("#minimize");
+  await expect("a small trace beside the run that was shown", `${isSaid("Of 17 events 3 are left: none of them can go, and no number can be one less. It is shown now, and what was shown stands beside it below.")} && ${isAt(3, 3)}`);
+  await asks("answer 2:1=segv");
+  await browser.click("#minimize");
+  await expect("what doesn't meet them", isSaid("The run that is shown doesn't meet all conditions."));
+}
+
+/** Searches that are long: the page goes on, they say how far they are, and stop. */
+async function tryStops() {
+  await open("#two-maps-one-lock");
+  await act(`document.getElementById("search-numbers").open = true;`);
+  await asks("answer 1:1=segv");
+  await set("#search-states", "1");
+  await browser.click("#every");
+  await expect("a bound", isSaid("The bound of 1 state was reached: no schedule of fewer than 1 turn meets all conditions."));
+  await set("#search-runs", "4000000000");
+  await browser.click("#find");
+  await expect("runs are counted", `/^[\\d,]+ runs/.test(${text("#search-count")}) && ${isOff("#find")} && document.getElementById("searching").getAttribute("aria-busy") === "true"`);
+  const waits = await browser.run(`(async () => { let most = 0; let last = performance.now();
+    for (const end = last + 500; last < end; ) { await new Promise((done) => setTimeout(done)); const now = performance.now(); most = Math.max(most, now - last); last = now; } return most; })()`);
+  console.log(`page: ${browser.name}: a search holds the page for ${waits.toFixed(0)} ms`);
+  await browser.click("#back");
+  await expect("the page goes on", isAt(16, 17));
+  await browser.press("Escape");
+  await act(`document.getElementById("searching").scrollIntoView();`);
+  await browser.click("#stop-search");
+  await expect("it stops", `/^Stopped: none of [\\d,]+ runs meets all conditions\\. /.test(${text("#search-said")}) && ${isOff("#stop-search")} && Number(document.getElementById("search-seed").value) > 1`);
+  await set("#search-runs", "0x1");
+  await browser.click("#find");
+  await expect("a number that is none", `!document.getElementById("search-runs").checkValidity() && ${isOff("#stop-search")}`);
+  await open("#64-backends-one-segment");
+  await asks("answer 1:9=segv");
+  await set("#search-states", "90000000");
+  await browser.click("#every");
+  await expect("turns are counted", `/^no schedule of fewer than \\d+ turns/.test(${text("#search-count")})`);
+  await act(`document.getElementById("conditions").focus();`);
+  await browser.press("Escape");
+  await expect("Escape stops it", isSaid("Stopped."));
 }
 
 /** Two schedules of one script, side by side. */
@@ -291,6 +404,12 @@ async function tryMissing() {
   await open("");
   await expect("a browser without memory64", `document.getElementById("main").hidden && ${text("#missing")}.includes("Firefox from 134")`);
   await browser.send("Page.removeScriptToEvaluateOnNewDocument", { identifier });
+  const none = await browser.send("Page.addScriptToEvaluateOnNewDocument", { source: "window.Worker = class { constructor() { throw new Error('no workers here'); } }" });
+  await open("#two-maps-one-lock");
+  await asks("blocked 2");
+  await browser.click("#minimize");
+  await expect("a browser without workers", isSaid("This browser lets the page have no worker, in which it would search (no workers here): the program can, see below."));
+  await browser.send("Page.removeScriptToEvaluateOnNewDocument", none);
 }
 
 /** Nothing is wider than the window, by width and by light. */
@@ -324,8 +443,12 @@ async function tryRoles() {
 const asked = process.env.TRIES?.split(" ").map((it) => `try${it}`);
 await inBrowsers(async (...it) => {
   [browser, kind] = it;
-  const all = [tryMoves, tryPicture, tryEvents, tryFields, tryTexts, tryPlaying, tryAddresses, tryFiles, trySearches, tryBeside, tryLong, tryRoles, tryMissing, tryLooks];
-  for (const tries of all.filter((one) => !asked || asked.includes(one.name))) await tries();
+  const all = [tryMoves, tryPicture, tryEvents, tryFields, tryTexts, tryWaits, tryPlaying, tryAddresses, tryFiles, tryConditions, tryMinimizing, tryFinding, tryStops, tryBeside, tryLong, tryRoles, tryMissing, tryLooks];
+  await open("");
+  const finds = await browser.run(`!document.getElementById("find").hidden`);
+  const left = finds ? [] : [tryFinding, tryStops];
+  if (!finds) console.log("left out: random runs and all schedules, which the page's module doesn't search");
+  for (const tries of all.filter((one) => !left.includes(one) && (!asked || asked.includes(one.name)))) await tries();
   const wrong = await browser.complaints(address);
   wrong.forEach((complaint) => console.log(`page: ${kind.name}: ${complaint}`));
   await expect("nothing goes wrong, and nothing is asked of the network", `${wrong.length} === 0`);

@@ -64,29 +64,20 @@ function saveAs(name, text, type) {
 
 const nameOf = (kind) => `${example || "own"}.${kind}`;
 
-// ---- searches, which the program makes
+// ---- scripts
 
 /** The pool and the calls alone: those of the script that is played, or the begins of the trace. */
 function scriptText() {
-  const calls = script.size > 0 ? script : scriptOf(trace.lines);
-  return textOf([trace.lines[0], ...[...calls.values()].flat()]);
-}
-
-/** The commands that search what is shown: for a refused page that is free, for all endings, and for a small trace with reservations left. */
-const searches = () => `hugepool find --every --at '*:*=SIGBUS free>0' ${nameOf("script")} > found.trace
-hugepool explore --every ${nameOf("script")}
-hugepool minimize --final 'resv>0' ${nameOf("trace")} > small.trace
-`;
-
-function showSearches() {
-  $("searches").textContent = searches();
+  const { lines } = script.lines.length > 0 ? script : scriptOf(trace.lines.slice(0, trace.count + 1));
+  const kind = lines.some((it) => it.startsWith("after ")) ? "script" : "pool";
+  return textOf([headerOf(kind, trace.lines[0]), ...lines]);
 }
 
 // ---- addresses
 
 /** What of the address leads to the trace: an example's name, or all of the trace, and behind an empty line the calls of its script. */
 async function placeName() {
-  if (script.size > 0) return PACKED_SCRIPT + (await pack([textOf(trace.lines), textOf([...script.values()].flat())].join("\n")));
+  if (script.lines.length > 0) return PACKED_SCRIPT + (await pack([textOf(trace.lines), textOf(script.lines)].join("\n")));
   return example || PACKED + (await pack(textOf(trace.lines)));
 }
 
@@ -134,9 +125,6 @@ function listenToFiles() {
   $("open").onclick = () => $("file").click();
   $("file").onchange = openFile;
   $("save").onclick = () => saveAs(nameOf("trace"), textOf(trace.lines), "text/plain");
-  $("searching").ontoggle = showSearches;
-  $("save-script").onclick = () => saveAs(nameOf("script"), scriptText(), "text/plain");
-  $("copy-searches").onclick = () => copyText(searches(), "copied");
   $("save-picture").onclick = () => saveAs(nameOf("svg"), library.text("draw", soFar(trace.count)), "image/svg+xml");
   $("text").oninput = typed;
   $("editing").ontoggle = showText;

@@ -1,5 +1,5 @@
-/* The heap of the page, in place of library/heap.c: the three functions of C that the proof takes as written, and room for what JavaScript
- * hands over. A block has a power of two of bytes, and its exponent stands in front of it; freed blocks are kept by exponent, to be used
+/* What the page's module has of C. The heap of the page, in place of library/heap.c: the three functions of C that the proof takes as
+ * written, and room for what JavaScript hands over; and a product of large numbers. A block has a power of two of bytes, and its exponent stands in front of it; freed blocks are kept by exponent, to be used
  * again. */
 typedef __SIZE_TYPE__ size_t;
 
@@ -87,3 +87,13 @@ tried rattle_realloc(void *old, size_t used, size_t size, size_t align)
 }
 
 void rattle_dealloc(void *given) { page_give(given); }
+
+/* The product of two numbers of 128 bits, by halves of 32: WebAssembly has no instruction for it, so the compiler calls this by its name. */
+__int128 __multi3(__int128 one, __int128 other)
+{
+    typedef unsigned long long half;
+    half a = (half)one, b = (half)other, low = (a & 0xffffffff) * (b & 0xffffffff);
+    half middle = (a >> 32) * (b & 0xffffffff) + (low >> 32), more = (a & 0xffffffff) * (b >> 32) + (middle & 0xffffffff);
+    half high = (a >> 32) * (b >> 32) + (middle >> 32) + (more >> 32) + (half)(one >> 64) * b + a * (half)(other >> 64);
+    return (__int128)((unsigned __int128)high << 64 | (more << 32 | (low & 0xffffffff)));
+}

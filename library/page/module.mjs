@@ -1,13 +1,15 @@
 #!/usr/bin/env -S node --experimental-wasm-memory64
-// Runs the traces of examples/ through the module of a page, and compares what comes with the texts beside them, to the byte.
+// Runs the traces of examples/ through the module of a page, and compares what comes with the texts beside them, to the byte; and then
+// searches, and compares what is found.
 //
-//   library/page/module.mjs PAGE.html
+//   library/page/module.mjs PAGE.html SEARCHES.json    the searches are those of library/searched.py
 //
 // The last line is 'N passed, M failed'.
 import fs from "node:fs";
 import path from "node:path";
 import { fileURLToPath } from "node:url";
 import { Library } from "./pool.js";
+import { searched } from "./searcher.js";
 import { Words, configOf, linesOf, textOf } from "./trace.js";
 
 const TOP = path.resolve(path.dirname(fileURLToPath(import.meta.url)), "../..");
@@ -77,6 +79,35 @@ function tryTrace(file) {
   expect(`${name}: the fault`, `hugepool: ${where}\nhugepool: ${fault.why}\n`, beside("err"));
 }
 
+const NUMBERS = { find: ["seed", "runs", "deny", "kill"], every: ["denials", "kills", "states"], minimize: [] };
+
+/** A search of examples/commands: what is found, or that nothing is, or that a line is none. */
+function trySearch({ name, words: [search, conditions, ...given], text, status, wanted }) {
+  const kind = { "find-every": "every" }[search] ?? search;
+  if (!(kind in NUMBERS) || !(`hugepool_${search.replace("-", "_")}` in library.exports)) return;
+  const numbers = Object.fromEntries(NUMBERS[kind].map((it, at) => [it, it === "seed" ? BigInt(given[at]) : Number(given[at])]));
+  const asked = { text: kind === "minimize" ? library.format(text.replace(/ x(\d+)$/gm, " *$1")).text : text, conditions, numbers };
+  const last = [...searched(library, kind, asked)].at(-1);
+  expect(`${name}: the answer`, last.answer, { 0: "found", 1: "none", 2: "condition", 3: "limit" }[status]);
+  if (status === 0) expect(`${name}: what is found`, last.text, wanted);
+  if (status === 0 && kind === "find") expect(`${name}: the run`, `${last.run}`, name.includes("seeds wrap") ? "1" : "0");
+}
+
+/** Random runs are searched in slices, also where seeds wrap. */
+function trySlices() {
+  if (!library.exports.hugepool_find) return;
+  const text = read(path.join(TOP, "examples", "truncate-against-fault.script"));
+  const asked = { text, conditions: "blocked 2\nanswer 1:2=beyond", numbers: { seed: 2n ** 64n - 40n, runs: 100, deny: 0, kill: 0 } };
+  const find = (more, conditions = asked.conditions) => [...searched(library, "find", { text, conditions, numbers: { ...asked.numbers, ...more } })];
+  const whole = library.search("find", text, asked.conditions, "hunt_words", { ...asked.numbers, limit: 100 });
+  const sliced = find({}).at(-1);
+  expect("slices", `${sliced.run} ${sliced.text}`, `${whole.number} ${whole.text}`);
+  const first = find({ seed: 1n }).at(-1);
+  expect("the run of docs/EXPLORING.md", `${first.run} ${linesOf(first.text).length - 1}`, "4 30");
+  const told = find({ runs: 5 }, "answer 1:2=segv");
+  expect("runs are counted", `${told[0].done} ${told.at(-2).done} ${told.at(-1).answer}`, "1 5 none");
+}
+
 /** How long an event takes in the module, all of them made in one call. */
 function time() {
   const round = ["step 1", "step 1", "step 1", "step 1", "step 1", "step 1", "step 1", "begin 1 store 0 7"];
@@ -92,6 +123,8 @@ function time() {
 for (const it of fs.readdirSync(path.join(TOP, "examples"), { recursive: true }).sort()) {
   if (it.endsWith(".trace")) tryTrace(path.join(TOP, "examples", it));
 }
+for (const it of JSON.parse(read(process.argv[3]))) trySearch(it);
+trySlices();
 expect("no text", JSON.stringify(library.fault("")?.isHeader), "true");
 library.end();
 time();

@@ -17,8 +17,8 @@ const trace = { lines: [], outcomes: [], count: 0, fault: null, begins: new Map(
 let at = 0;
 /** The example that is shown; none where the lines are somebody's own. */
 let example = "";
-/** The calls that a script has each task begin, by the task's number; none where there is no script. */
-let script = new Map();
+/** The script that is played: its lines behind the header, and the calls that it has each task begin; none of either where there is none. */
+let script = scriptOf([]);
 let past = [];
 let future = [];
 /** How many events the picture has, and when it is to have more. */
@@ -46,10 +46,11 @@ function closeTrace(fault) {
 function noteBegins(keep) {
   for (const places of trace.begins.values()) places.length = countBelow(places, keep);
   for (let place = keep; place < trace.count; place++) {
-    const [kind, task] = trace.lines[place + 1].split(" ", 2);
-    if (kind !== "begin") continue;
-    if (!trace.begins.has(Number(task))) trace.begins.set(Number(task), []);
-    trace.begins.get(Number(task)).push(place);
+    const line = trace.lines[place + 1];
+    if (!line.startsWith("begin ")) continue;
+    const task = Number(line.split(" ", 2)[1]);
+    if (!trace.begins.has(task)) trace.begins.set(task, []);
+    trace.begins.get(task).push(place);
   }
 }
 
@@ -137,66 +138,89 @@ function change(kept, more, place, by = {}) {
   showPast();
 }
 
-function undo() {
-  const last = past.pop();
+/** Takes the last change of a list, has the lines and the surroundings that it has by these names, and keeps it in the other list. */
+function shift(from, to, lines, when) {
+  const last = from.pop();
   if (!last) return;
-  surround(last.before);
-  replaceLines(last.kept, last.removed, last.before.at);
-  future.push(last);
+  surround(last[when]);
+  replaceLines(last.kept, last[lines], last[when].at);
+  to.push(last);
   showPast();
 }
 
-function redo() {
-  const next = future.pop();
-  if (!next) return;
-  surround(next.after);
-  replaceLines(next.kept, next.more, next.after.at);
-  past.push(next);
-  showPast();
-}
+const undo = () => shift(past, future, "removed", "before");
+const redo = () => shift(future, past, "more", "after");
 
 /** An event behind the moment that is shown; it replaces what came there. (what buttons and fields make is allowed in any trace) */
 function append(event) {
-  const by = script.size === 0 ? { example: "" } : {};
+  const by = script.lines.length === 0 ? { example: "" } : {};
   if (at < MOST_EVENTS) change(at + 1, [event], at + 1, { ...by, areAllowed: true });
   else tell(`This page takes ${MOST_EVENTS.toLocaleString("en")} events: there is room for no other.`);
 }
 
 // ---- whole traces
 
-/** The begins of each task, as its calls, which are begun when somebody says so. */
+/** A script of the lines that are begins and what these wait for. A task's calls are begun in their order, when somebody says so; each of
+ *  them may wait for the end of so many calls of other tasks. */
 function scriptOf(lines) {
-  const calls = new Map();
-  for (const it of lines) {
-    const [kind, task] = it.split(" ", 2);
-    if (kind === "begin") calls.set(Number(task), [...(calls.get(Number(task)) ?? []), it]);
+  const made = { lines: lines.filter((it) => /^(begin|after) /.test(it)), calls: new Map() };
+  let waits = [];
+  for (const it of made.lines) {
+    const task = Number(it.split(" ", 2)[1]);
+    if (!made.calls.has(task)) made.calls.set(task, []);
+    const calls = made.calls.get(task);
+    if (it.startsWith("after ")) waits.push({ task, count: calls.length });
+    else {
+      calls.push({ begin: it, waits });
+      waits = [];
+    }
   }
-  return calls;
+  return made;
 }
 
-/** An example, or a script of it, of which nothing has happened yet. */
+/** The header of a trace, or of a script. */
+const headerOf = (kind, line) => line.replace(/^\w+/, kind);
+
+/** Takes lines as a script, of which nothing has happened yet. */
+function takeScript(lines, name) {
+  change(0, [headerOf("pool", lines[0])], 0, { example: name, script: scriptOf(lines) });
+}
+
+/** An example, or a script of it. */
 function chooseExample(name, place = Infinity) {
   const { kind, text } = data.examples.find((it) => it.name === name);
-  const lines = linesOf(text);
-  if (kind === "script") change(0, lines.slice(0, 1), 0, { example: name, script: scriptOf(lines) });
-  else change(0, lines, place, { example: name, script: new Map() });
+  if (kind === "script") takeScript(linesOf(text), name);
+  else change(0, linesOf(text), place, { example: name, script: scriptOf([]) });
 }
+
+/** Lines that were found to be allowed, as long as they aren't too many for the page. */
+const allowed = (lines) => ({ lines, why: "", areAllowed: lines.length <= MOST_EVENTS + 1 });
 
 /** What a text asks for: the lines of a strict trace, and what is wrong with it. A text in the loose form is read up to its first wrong line. */
 function readText(text) {
-  const fault = library.fault(text);
-  if (!fault) return { lines: linesOf(text), why: "" };
+  const lines = linesOf(text);
+  const fault = library.fault(textOf(lines));
+  if (!fault) return allowed(lines);
   const loose = library.format(text);
-  if (loose.text !== undefined) return { lines: linesOf(loose.text), why: "" };
+  if (loose.text !== undefined) return allowed(linesOf(loose.text));
   // (what is wrong with a line of no form is shown with its row)
-  if (loose.line === fault.line && loose.why.startsWith("is not")) return { lines: linesOf(text), why: "" };
-  const front = library.format(textOf(linesOf(text).slice(0, loose.line - 1)));
+  if (loose.line === fault.line && loose.why.startsWith("is not")) return { lines, why: "" };
+  const front = library.format(textOf(lines.slice(0, loose.line - 1)));
   return { lines: front.text === undefined ? [] : linesOf(front.text), why: `Line ${loose.line} ${loose.why}. The lines before it are shown.` };
 }
 
-/** Takes a text as the trace, strict or loose, with the calls of a script that it is played of. */
-function takeText(text, place = Infinity, calls = new Map()) {
-  const { lines, why } = readText(text);
-  change(0, lines, place, { example: "", script: calls });
-  tell(why);
+/** Takes a text as a script whose calls wait: its begins are those of a trace. */
+function takeWaits(lines) {
+  const begins = lines.filter((it) => !it.startsWith("after "));
+  const fault = library.fault(textOf([headerOf("pool", begins[0]), ...begins.slice(1)]));
+  if (!fault) takeScript(lines, "");
+  tell(fault ? `"${begins[fault.line - 1]}" is not allowed in a script: ${fault.why}` : "");
+}
+
+/** Takes a text as the trace, strict or loose, with the script that it is played of. */
+function takeText(text, place = Infinity, by = scriptOf([])) {
+  if (text.startsWith("script ")) return takeWaits(linesOf(text));
+  const { lines, why, areAllowed } = readText(text);
+  change(0, lines, place, { example: "", script: by, areAllowed });
+  return tell(why);
 }

@@ -8,6 +8,8 @@ const MEMORY64 = new Uint8Array([0, 97, 115, 109, 1, 0, 0, 0, 5, 3, 1, 4, 1]);
 
 const data = JSON.parse($("data").textContent);
 let list;
+// the module, of which a search has one of its own
+let wasmBytes;
 
 // ---- the lines
 
@@ -35,6 +37,7 @@ function showTrace(kept) {
   setRows(list, Math.min(trace.lines.length, MOST_EVENTS + 2), Math.max(0, kept - 1));
   showFault();
   showText();
+  showCondition();
   showSearches();
   forgetTexts();
   showBeside();
@@ -176,7 +179,7 @@ function listenToPage() {
     else showExample("");
   };
   $("clear").onclick = () => change(1, [], 0);
-  $("script").onclick = () => change(1, [], 0, { example: "", script: scriptOf(trace.lines) });
+  $("script").onclick = () => takeScript(linesOf(scriptText()), "");
   $("more").onclick = () => {
     showsAll = !showsAll;
     showTasks();
@@ -209,7 +212,8 @@ async function begins() {
   showOrigin();
   if (!WebAssembly.validate(MEMORY64)) return complain("This browser can't run this page.");
   try {
-    library = await Library.of(Uint8Array.from(atob(data.wasm), (it) => it.charCodeAt(0)), data.header);
+    wasmBytes = bytesOf(data.wasm);
+    library = await Library.of(wasmBytes, data.header);
   } catch (error) {
     return complain(`This browser refused the module: ${error.message}.`);
   }
@@ -224,7 +228,7 @@ async function begins() {
   });
   firstPicked = -1;
   Object.assign(hooks, { picks: (place) => { stop(); go(place + 1); } });
-  for (const it of [listenToPicture, listenToMoves, listenToForms, listenToTexts, listenToFiles, listenToBeside, listenToPage]) it();
+  for (const it of [listenToPicture, listenToMoves, listenToForms, listenToTexts, listenToFiles, listenToBeside, listenToAsking, listenToFinding, listenToPage]) it();
   await followAddress();
   past = [];
   showPast();

@@ -18,6 +18,10 @@ const SCRATCH = 256;
 const TEXT = 1 << 16;
 // a pool has room for so many events at first
 const LEAST_EVENTS = 64;
+// room for the trace that a search finds
+const FOUND = 1 << 20;
+// what a search may answer, by its code; of each other the page has no use
+const SEARCHED = { found: "OK", none: "NONE_MEETS", limit: "LIMIT_REACHED", condition: "BAD_CONDITION", line: "BAD_LINE", header: "BAD_HEADER" };
 // a line behind all lines
 const LAST = 0xffffffff;
 
@@ -62,9 +66,10 @@ export class Library {
   readAll(name, at, count) {
     const { size, fields } = this.structs[name];
     const view = new DataView(this.exports.memory.buffer, Number(at));
+    const readers = fields.map(([field, kind, place]) => ({ field, get: GETTERS[kind], place }));
     return Array.from({ length: count }, (_, which) => {
       const values = {};
-      for (const [field, kind, place] of fields) values[field] = GETTERS[kind](view, which * size + place);
+      for (const { field, get, place } of readers) values[field] = get(view, which * size + place);
       return values;
     });
   }
@@ -252,6 +257,31 @@ export class Library {
       const why = this.put((...out) => this.exports.hugepool_format_reason(...bytes, ...out));
       return { line, why: typeof why === "string" ? why : "" };
     });
+  }
+
+  // ---- searches
+
+  /** What a search of a text by conditions answers: in a word; the text that it found, or the first bad line of the conditions or of the
+   *  text; and the number that it tells beside. */
+  search(name, text, conditions, struct, values) {
+    const [line, number, given] = [this.beside, this.beside + 8n, this.beside + 16n];
+    this.bytes(line, 16).fill(0);
+    if (struct) this.write(struct, given, values);
+    const call = this.exports[`hugepool_${name}`];
+    const [before, behind] = struct ? [[given], [number]] : [[], []];
+    const told = this.withTrace(text, (...one) => this.withTrace(conditions, (...other) =>
+      this.put((...out) => call(...one, ...other, ...before, ...out, line, ...behind), FOUND)));
+    const code = typeof told === "string" ? this.numbers.OK : told;
+    const answer = Object.keys(SEARCHED).find((it) => this.numbers[SEARCHED[it]] === code);
+    if (!answer) this.answered(code);
+    const view = new DataView(this.exports.memory.buffer);
+    return { answer, text: told, line: view.getUint32(Number(line), true), number: view.getUint32(Number(number), true) };
+  }
+
+  /** The number of the first line that is no condition; 0 where there is none at all, and null where all are. */
+  wrongCondition(conditions) {
+    const { answer, line } = this.search("minimize", "", conditions);
+    return answer === "condition" ? line : null;
   }
 
   /** The first line of the trace that isn't allowed, counted from 1, and why; null if all are. */

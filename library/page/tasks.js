@@ -34,7 +34,7 @@ function cardOf(task) {
     linux: element("p", { className: "linux soft" }),
     blocks: element("p", { className: "blocks soft" }),
     seen: element("p", { className: "soft" }),
-    next: button("", () => append(nextOf(task)), { className: "go" }),
+    next: button("", () => append(nextOf(task).begin), { className: "go" }),
   };
   for (const [kind, title] of Object.entries(TURNS)) {
     parts[kind] = button(kind, () => append(`${kind} ${task}`), { className: { step: "go", kill: "kill" }[kind] ?? "", title });
@@ -47,15 +47,27 @@ function cardOf(task) {
   return parts;
 }
 
+/** How many begins of the task came before the shown moment. */
+const begunBy = (task) => countBelow(trace.begins.get(task) ?? [], at);
+
 /** The call that a script has the task begin next, if there is one. */
 function nextOf(task) {
-  return script.get(task)?.[countBelow(trace.begins.get(task) ?? [], at)];
+  return script.calls.get(task)?.[begunBy(task)];
+}
+
+/** The first thing that a call waits for by its script, if there is one left: the end of so many calls of a task. */
+function leftOf(next, tasks) {
+  return next.waits.find(({ task, count }) => {
+    const { life, phase } = tasks.get(task) ?? { life: library.numbers.LIFE_DEAD };
+    const isInCall = phase !== library.numbers.PHASE_NONE;
+    return life !== library.numbers.LIFE_DEAD && begunBy(task) < count + (isInCall ? 1 : 0);
+  });
 }
 
 /** The call that the task began last, in words. */
 function callOf(task) {
   const places = trace.begins.get(task) ?? [];
-  for (let it = countBelow(places, at) - 1; it >= 0; it--) {
+  for (let it = begunBy(task) - 1; it >= 0; it--) {
     if (trace.outcomes[places[it]] === "begun") return trace.lines[places[it] + 1].split(" ").slice(2).join(" ");
   }
   return "";
@@ -109,14 +121,21 @@ function showCard(task, tasks) {
   card.seen.textContent = `${plural(mappings, "mapping")}, ${plural(entries, "translated page")}`;
   for (const it of [card.step, card.deny]) setOff(it, !isInCall || is_blocked);
   setOff(card.kill, life !== library.numbers.LIFE_ALIVE);
-  card.next.textContent = next ?? "";
-  card.next.hidden = next === undefined;
   card.step.hidden = card.deny.hidden = next !== undefined;
+  showNext(card, next, tasks);
+}
+
+function showNext(card, next, tasks) {
+  const left = next && leftOf(next, tasks);
+  card.next.textContent = next?.begin ?? "";
+  card.next.hidden = next === undefined;
+  card.next.title = left ? `The script begins it once ${plural(left.count, "call")} of task ${left.task} ended` : "The task's next call by the script";
+  setOff(card.next, left !== undefined);
 }
 
 /** The tasks that the trace or the script names. */
 function namedTasks() {
-  return new Set([...script.keys(), ...trace.begins.keys(), ...view.run.laneOf.keys()]);
+  return new Set([...script.calls.keys(), ...trace.begins.keys(), ...view.run.laneOf.keys()]);
 }
 
 // ---- folds
@@ -189,7 +208,7 @@ function turnsOf(tasks) {
   return [...tasks].flatMap(([task, { life, phase, is_blocked }]) => {
     if (phase !== library.numbers.PHASE_NONE) return is_blocked ? [] : [`step ${task}`];
     const next = life === library.numbers.LIFE_DEAD ? undefined : nextOf(task);
-    return next === undefined ? [] : [next];
+    return next === undefined || leftOf(next, tasks) ? [] : [next.begin];
   });
 }
 

@@ -6,6 +6,7 @@ import ctypes
 import gc
 import json
 import pickle
+import re
 import sys
 from pathlib import Path
 from threading import Thread
@@ -14,6 +15,9 @@ import pytest
 
 import hugepool
 from hugepool import Answer, Event, Life, Op, OutcomeKind, Phase, Pool, Refusal, begin, deny, events, kill, parse, resize, step
+
+sys.path.insert(0, str(Path(__file__).resolve().parents[1]))
+import searched  # noqa: E402
 
 EXAMPLES = Path(__file__).resolve().parents[2] / "examples"
 TRACES = sorted(it for it in EXAMPLES.glob("*.trace") if it.with_suffix(".out").exists() and not it.with_suffix(".status").exists())
@@ -311,6 +315,67 @@ def test_errors():
     pool.close()
     with pytest.raises(hugepool.Closed):
         pool.event(step(1))
+
+
+def found_by(search: list[str], text: str) -> str | None:
+    """What a search of examples/commands finds: the text, or None; `Found` has the run beside it."""
+    call, *given = search
+    if call == "minimize":
+        return hugepool.minimize(hugepool.format(re.sub(r" x(\d+)$", r" *\1", text, flags=re.MULTILINE)), given[0])
+    if call == "find":
+        found = hugepool.find(text, given[0], **dict(zip(("seed", "limit", "deny", "kill"), map(int, given[1:]))))
+        return found and found.trace
+    return hugepool.find_every(text, given[0], **dict(zip(("denials", "kills", "states"), map(int, given[1:]))))
+
+
+@pytest.mark.parametrize("row", searched.searches(EXAMPLES / "commands"), ids=lambda it: it.name)
+def test_searches_find_what_is_written_by_hand(row):
+    if row.status in (0, 1):
+        assert found_by(row.words, row.text) == (row.wanted if row.status == 0 else None)
+        return
+    with pytest.raises(hugepool.LimitReached if row.status == 3 else hugepool.BadCondition):
+        found_by(row.words, row.text)
+
+
+def test_a_run_is_found_by_slices(monkeypatch):
+    """(The run and its length are those of docs/EXPLORING.md.)"""
+    script, asked = (EXAMPLES / "truncate-against-fault.script").read_bytes(), ["blocked 2", "answer 1:2=beyond"]
+    for size in 1, 2, 3, 4, 5, 1 << 12:
+        monkeypatch.setattr("hugepool._searches._SLICE", size)
+        found = hugepool.find(script, asked)
+        assert (found.run, found.seed, hugepool.check(found.trace)) == (4, 5, 30)
+        assert hugepool.find(script, asked, seed=5, limit=1) == hugepool.Found(found.trace, 0, 5)
+        wrapped = hugepool.find("pool 1 1 1 2\nbegin 1 trunc 0 0\nbegin 2 trunc 0 0\n", "blocked 1", seed=(1 << 64) - 1)
+        assert (wrapped.run, wrapped.seed) == (1, 0)
+        assert hugepool.find(script, asked, limit=4) is hugepool.find(script, asked, limit=0) is None
+
+
+def test_a_bad_search_is_told():
+    trace = "pool 1 1 1 1\nbegin 1 load 0\nstep 1\n"
+    for asked, line, said in (["rest", "blocked 0"], 2, "blocked 0"), ("rest\n\n", 2, ""), ("", 0, ""), (["anywhere"], 0, ""):
+        with pytest.raises(hugepool.BadCondition) as raised:
+            hugepool.minimize(trace, asked)
+        assert (raised.value.line, raised.value.text) == (line, said)
+        assert str(pickle.loads(pickle.dumps(raised.value))) == str(raised.value)
+    with pytest.raises(hugepool.BadTrace) as raised:
+        hugepool.minimize(trace + "stop 1\n", ["rest"])
+    assert raised.value.line == 4
+    with pytest.raises(hugepool.BadTrace) as raised:
+        hugepool.find(trace, ["rest"])
+    assert raised.value.line == 3
+    with pytest.raises(hugepool.LimitReached) as raised:
+        hugepool.find_every("pool 4 1 4 2\nbegin 1 map 0 0 4\nbegin 2 map 0 0 4\n", "answer 1:1=segv", states=1)
+    assert raised.value.turns == 1 and str(pickle.loads(pickle.dumps(raised.value))) == str(raised.value)
+    for numbers in {"seed": -1}, {"seed": 1 << 64}, {"limit": 1 << 32}, {"deny": -1}, {"kill": 1 << 32}:
+        with pytest.raises(hugepool.NoSuch):
+            hugepool.find("pool 1 1 1 1\n", "rest", **numbers)
+    for numbers in {"states": -1}, {"denials": 1 << 32}, {"kills": -1}:
+        with pytest.raises(hugepool.NoSuch):
+            hugepool.find_every("pool 1 1 1 1\n", "rest", **numbers)
+    with pytest.raises(TypeError):
+        hugepool.find("pool 1 1 1 1\n", "rest", limit=1.5)
+    with pytest.raises(TypeError):
+        hugepool.find(5, "rest")
 
 
 def test_the_version_is_that_of_the_library():

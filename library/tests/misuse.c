@@ -260,6 +260,35 @@ static void outcomes(void)
     is_written(7, 1, NULL);
 }
 
+/* A trace, conditions, and what hugepool_minimize makes of them, with the line. */
+typedef struct {
+    const char *trace, *conditions;
+    uint32_t code, line;
+} asked;
+
+/* The first bad line of conditions is told, and that of the trace only where they have none. */
+static void conditions(void)
+{
+    static const char load[] = "pool 1 1 1 2\nbegin 1 load 0\nstep 1\n", cut[] = "pool 1 1 1 2\nbegin 1 load 0\nstop 1\n";
+    static const asked all[] = { { load, "final free=1\n", HUGEPOOL_OK, 0 }, { load, "final free=1", HUGEPOOL_OK, 0 },
+        { load, "rest\nanywhere\nfinal free=1|resv=7\n", HUGEPOOL_OK, 0 }, { load, "answer +1:01=SIGSEGV", HUGEPOOL_OK, 0 },
+        { load, "blocked *", HUGEPOOL_NONE_MEETS, 0 }, { load, "final free=1\nfinal fre=1\n", HUGEPOOL_BAD_CONDITION, 2 },
+        { load, "final free=1\n\nrest\n", HUGEPOOL_BAD_CONDITION, 2 }, { load, "final", HUGEPOOL_BAD_CONDITION, 1 },
+        { load, "final free=1|", HUGEPOOL_BAD_CONDITION, 1 }, { load, "final free=4294967296", HUGEPOOL_BAD_CONDITION, 1 },
+        { load, "answer not not 1:1=segv", HUGEPOOL_BAD_CONDITION, 1 }, { load, "--rest", HUGEPOOL_BAD_CONDITION, 1 },
+        { load, "", HUGEPOOL_BAD_CONDITION, 0 }, { load, "anywhere\n", HUGEPOOL_BAD_CONDITION, 0 },
+        { cut, "rest", HUGEPOOL_BAD_LINE, 3 }, { cut, "rest \n", HUGEPOOL_BAD_CONDITION, 1 }, { "", "rest", HUGEPOOL_BAD_HEADER, 1 } };
+    uint8_t out[64];
+    for (size_t at = 0; at < sizeof all / sizeof *all; at++) {
+        const asked *it = &all[at];
+        size_t needed = 7;
+        uint32_t line = 7;
+        assert(hugepool_minimize((const uint8_t *)it->trace, strlen(it->trace), (const uint8_t *)it->conditions, strlen(it->conditions), out,
+                   sizeof out, &needed, &line) == it->code);
+        assert(line == it->line && (needed == 0) == (it->code != HUGEPOOL_OK));
+    }
+}
+
 static hugepool_event_words random_event(void)
 {
     hugepool_event_words event = { 0 };
@@ -319,6 +348,7 @@ int main(int count, char **words)
     parts();
     lines();
     outcomes();
+    conditions();
     random_events(strtol(words[1], NULL, 10));
     return 0;
 }

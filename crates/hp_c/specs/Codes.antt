@@ -33,6 +33,18 @@ bad_header = 6
 abbrev pub too_small : ℕ
 too_small = 7
 
+-- a line of the conditions says none
+abbrev pub bad_condition : ℕ
+bad_condition = 8
+
+-- nothing meets the conditions
+abbrev pub none_meets : ℕ
+none_meets = 9
+
+-- the limits were reached first
+abbrev pub limit_reached : ℕ
+limit_reached = 10
+
 -- the version: 0.1.0
 abbrev pub version : ℕ
 version = 1000

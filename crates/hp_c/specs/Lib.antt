@@ -1,7 +1,9 @@
 pub mod Answers
 pub mod Audits
 pub mod Codes
+pub mod Finding
 pub mod Lines
 pub mod Numbers
 pub mod Runs
+pub mod Searches
 pub mod Texts

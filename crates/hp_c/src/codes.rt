@@ -23,3 +23,12 @@ pub const BAD_HEADER: u32 = 6;
 
 /// There is more to tell than there is room for.
 pub const TOO_SMALL: u32 = 7;
+
+/// A line of the conditions says none.
+pub const BAD_CONDITION: u32 = 8;
+
+/// Nothing meets the conditions.
+pub const NONE_MEETS: u32 = 9;
+
+/// The limits were reached first.
+pub const LIMIT_REACHED: u32 = 10;

@@ -10,7 +10,7 @@ use hp_replay::{ReplayFault, Watched, check_trace, replay};
 use std::alloc::Global;
 
 /// The code of a fault, and its line where it has one.
-fn fault_code(fault: ReplayFault) -> (u32, u32)
+pub(crate) fn fault_code(fault: ReplayFault) -> (u32, u32)
     ensures { Codes fault result.0 result.1 }
 {
     match fault {
@@ -65,6 +65,15 @@ pub(crate) fn put(text: &[u8], out: &mut [u8]) -> bool
     true
 }
 
+/// Tells a text.
+pub(crate) fn tell_text(text: &[u8], out: &mut [u8], needed: &mut usize, line: &mut u32) -> u32
+    ensures { Tells text.now out.old out.new needed.new result line.new }
+{
+    *needed = text.len();
+    *line = 0;
+    if put(text, out) { OK } else { TOO_SMALL }
+}
+
 /// Tells a text, or the fault for which there is none.
 pub(crate) fn tell(
     text: Result<Vec<u8>, ReplayFault>,
@@ -76,15 +85,7 @@ pub(crate) fn tell(
     ensures err { IfErr text (λ fault. Codes fault result line.new × (out.new ≡ out.old) × (needed.new ≡ 0)) }
 {
     match text {
-        Ok(text) => {
-            *needed = text.len();
-            *line = 0;
-            if put(text.as_slice(), out) {
-                OK
-            } else {
-                TOO_SMALL
-            }
-        }
+        Ok(text) => tell_text(text.as_slice(), out, needed, line),
         Err(fault) => {
             let (code, bad) = fault_code(fault);
             *needed = 0;

@@ -41,7 +41,29 @@ class BadTrace(Error, ValueError):
         return f"line {self.line} is not allowed here: {self.reason}"
 
 
-OK, IS_CLOSED, NO_MEMORY, NO_SUCH, IN_FLIGHT, BAD_LINE, BAD_HEADER, TOO_SMALL = range(8)
+class BadCondition(Error, ValueError):
+    """A line is no condition: its number, counted from 1, and the line; or no line says a condition, at line 0."""
+
+    def __init__(self, line: int, text: str) -> None:
+        super().__init__(line, text)
+        self.line, self.text = line, text
+
+    def __str__(self) -> str:
+        return f"line {self.line} is no condition: {self.text!r}" if self.line else "no line says a condition"
+
+
+class LimitReached(Error):
+    """A search of all schedules came to its bound of states: in schedules of so many turns."""
+
+    def __init__(self, turns: int) -> None:
+        super().__init__(turns)
+        self.turns = turns
+
+    def __str__(self) -> str:
+        return f"the bound of states was reached at schedules of {self.turns} turns"
+
+
+OK, IS_CLOSED, NO_MEMORY, NO_SUCH, IN_FLIGHT, BAD_LINE, BAD_HEADER, TOO_SMALL, BAD_CONDITION, NONE_MEETS, LIMIT_REACHED = range(11)
 _ERRORS: dict[int, type[Error]] = {IS_CLOSED: Closed, NO_MEMORY: OutOfMemory, NO_SUCH: NoSuch, IN_FLIGHT: InFlight}
 
 

@@ -7,7 +7,7 @@ from ctypes import POINTER, c_bool, c_char, c_char_p, c_size_t, c_uint32
 from pathlib import Path
 from typing import Callable
 
-from hugepool._words import Acquired, Config, Event, FileNumbers, Frame, Handle, Outcome, PoolNumbers, TaskNumbers
+from hugepool._words import Acquired, Bounds, Config, Event, FileNumbers, Frame, Handle, Hunt, Outcome, PoolNumbers, TaskNumbers
 
 NAME = "libhugepool.so.1"
 
@@ -53,6 +53,10 @@ format_trace = _call(_long, "format", *_TEXT[:5], _SIZE)
 format_reason = _call(_long, "format_reason", *_TEXT[:5])
 check = _call(_long, "check", c_char_p, c_size_t, _LINE, _LINE)
 reason = _call(_long, "reason", c_char_p, c_size_t, c_uint32, POINTER(c_char), c_size_t, _SIZE)
+_ASKED = (c_char_p, c_size_t, c_char_p, c_size_t)
+minimize = _call(_long, "minimize", *_ASKED, *_TEXT[2:])
+find = _call(_long, "find", *_ASKED, POINTER(Hunt), *_TEXT[2:], _LINE)
+find_every = _call(_long, "find_every", *_ASKED, POINTER(Bounds), *_TEXT[2:], _LINE)
 _version = _call(_short, "version")
 
 

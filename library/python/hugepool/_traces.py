@@ -9,7 +9,7 @@ from hugepool import _library
 from hugepool._errors import BAD_HEADER, BAD_LINE, OK, TOO_SMALL, BadTrace, error_of
 
 
-def _bytes(trace: str | bytes) -> bytes:
+def bytes_of(trace: str | bytes) -> bytes:
     if isinstance(trace, str):
         return trace.encode()
     if isinstance(trace, (bytes, bytearray, memoryview)):
@@ -24,7 +24,7 @@ _LEAST, _TIMES, _MOST = 1 << 16, 80, 1 << 28
 _LAST = (1 << 32) - 1
 
 
-def _put(call: Callable[..., int], room: int, *words: object) -> tuple[int, str]:
+def put(call: Callable[..., int], room: int, *words: object) -> tuple[int, str]:
     """What is put into a room that is large enough, which is read there."""
     needed = c_size_t()
     while True:
@@ -35,20 +35,20 @@ def _put(call: Callable[..., int], room: int, *words: object) -> tuple[int, str]
         room = needed.value
 
 
-def _refuse(data: bytes, code: int, line: int) -> None:
+def refuse(data: bytes, code: int, line: int) -> None:
     """Raises what a code says of a trace."""
     if code not in (BAD_LINE, BAD_HEADER):
         raise error_of(code)
-    told, why = _put(lambda *it: _library.reason(data, len(data), line, *it), _LEAST)
+    told, why = put(lambda *it: _library.reason(data, len(data), line, *it), _LEAST)
     raise BadTrace(line, why if told == OK else "nothing more can be told")
 
 
 def _text(export: Callable[..., int], trace: str | bytes, *lines: int) -> str:
-    data, line = _bytes(trace), c_uint32()
+    data, line = bytes_of(trace), c_uint32()
     room = min(_LEAST + _TIMES * len(data), _MOST)
-    code, text = _put(lambda *it: export(data, len(data), *lines, *it), room, byref(line))
+    code, text = put(lambda *it: export(data, len(data), *lines, *it), room, byref(line))
     if code:
-        _refuse(data, code, line.value)
+        refuse(data, code, line.value)
     return text
 
 
@@ -74,10 +74,10 @@ def explain_json(trace: str | bytes, first: int = 2, last: int = _LAST) -> str:
 
 def format(loose: str | bytes) -> str:
     """The trace that a text in the loose form asks for, which has comments, blank lines, and steps that are repeated."""
-    data, line = _bytes(loose), c_size_t()
-    code, text = _put(lambda *it: _library.format_trace(data, len(data), *it), _LEAST, byref(line))
+    data, line = bytes_of(loose), c_size_t()
+    code, text = put(lambda *it: _library.format_trace(data, len(data), *it), _LEAST, byref(line))
     if code == BAD_LINE:
-        raise BadTrace(line.value, _put(lambda *it: _library.format_reason(data, len(data), *it), _LEAST)[1])
+        raise BadTrace(line.value, put(lambda *it: _library.format_reason(data, len(data), *it), _LEAST)[1])
     if code:
         raise error_of(code)
     return text
@@ -90,7 +90,7 @@ def draw(trace: str | bytes) -> str:
 
 def check(trace: str | bytes) -> int:
     """How many events the trace has."""
-    data, count, line = _bytes(trace), c_uint32(), c_uint32()
+    data, count, line = bytes_of(trace), c_uint32(), c_uint32()
     if code := _library.check(data, len(data), byref(count), byref(line)):
-        _refuse(data, code, line.value)
+        refuse(data, code, line.value)
     return count.value

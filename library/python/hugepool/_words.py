@@ -273,5 +273,13 @@ class Handle(ctypes.Structure):
     _fields_ = [("core", c_void_p), ("is_open", c_bool), ("was_held_back", c_bool)]
 
 
+class Hunt(ctypes.Structure):
+    _fields_ = [("seed", c_uint64), ("limit", c_uint32), ("deny", c_uint32), ("kill", c_uint32)]
+
+
+class Bounds(ctypes.Structure):
+    _fields_ = [("denials", c_uint32), ("kills", c_uint32), ("states", c_uint32)]
+
+
 class Frame(ctypes.Structure):
     _fields_ = [("frame", c_uint32), ("is_there", c_bool)]

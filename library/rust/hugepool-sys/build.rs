@@ -14,6 +14,7 @@ fn main() {
         println!("cargo:rerun-if-env-changed={name}");
     }
     if let Ok(folder) = env::var("HUGEPOOL_LIB_DIR") {
+        println!("cargo:rerun-if-changed={folder}/libhugepool.a");
         println!("cargo:rustc-link-search=native={folder}");
         println!("cargo:rustc-link-lib=static=hugepool");
         return;

@@ -163,6 +163,32 @@ pub struct FrameWords {
     pub is_there: bool,
 }
 
+/// Which random runs of a script are searched: run k goes by the generator that is seeded with `seed + k`, wrapping.
+#[repr(C)]
+#[derive(Clone, Copy, Debug, Default, PartialEq, Eq, Hash)]
+pub struct HuntWords {
+    /// The seed of run 0.
+    pub seed: u64,
+    /// So many runs, from run 0 on.
+    pub limit: u32,
+    /// The chance in 1000 that an allocation fails.
+    pub deny: u32,
+    /// The chance in 1000 that a turn kills its task.
+    pub kill: u32,
+}
+
+/// Which schedules of a script are searched, and how far.
+#[repr(C)]
+#[derive(Clone, Copy, Debug, Default, PartialEq, Eq, Hash)]
+pub struct BoundsWords {
+    /// So many allocations fail in a schedule, at most.
+    pub denials: u32,
+    /// So many tasks are killed in it, at most.
+    pub kills: u32,
+    /// So many states are kept at once, at most.
+    pub states: u32,
+}
+
 impl Handle {
     /// A closed pool.
     pub const CLOSED: Handle = Handle { core: core::ptr::null_mut(), is_open: false, was_held_back: false };
@@ -223,6 +249,12 @@ extern "C" {
     pub fn hugepool_check(trace: *const u8, length: usize, events: *mut u32, line: *mut u32) -> u32;
     /// What is wrong with a line of the trace.
     pub fn hugepool_reason(trace: *const u8, length: usize, line: u32, out: *mut u8, room: usize, needed: *mut usize) -> u32;
+    /// A small trace that still meets the conditions.
+    pub fn hugepool_minimize(trace: *const u8, length: usize, conditions: *const u8, size: usize, out: *mut u8, room: usize, needed: *mut usize, line: *mut u32) -> u32;
+    /// The first of these runs that meets the conditions.
+    pub fn hugepool_find(script: *const u8, length: usize, conditions: *const u8, size: usize, hunt: *const HuntWords, out: *mut u8, room: usize, needed: *mut usize, line: *mut u32, run: *mut u32) -> u32;
+    /// A shortest of all schedules that meet the conditions.
+    pub fn hugepool_find_every(script: *const u8, length: usize, conditions: *const u8, size: usize, bounds: *const BoundsWords, out: *mut u8, room: usize, needed: *mut usize, line: *mut u32, turns: *mut u32) -> u32;
     /// The sizes that a trace's first line spells.
     pub fn hugepool_read_config(line: *const u8, length: usize, config: *mut ConfigWords) -> u32;
     /// The event that another line spells.

@@ -18,12 +18,14 @@
 mod event;
 mod outcome;
 mod pool;
+mod searches;
 mod texts;
 
 pub use event::{Event, NoEvent, Op};
 pub use hugepool_sys::{AcquiredWords, EventWords, FileWords, OutcomeWords, PoolWords, TaskWords};
 pub use outcome::{Outcome, ANSWERS, PHASES, REFUSALS};
 pub use pool::{Fault, Pool, Sizes};
+pub use searches::{find, find_every, minimize, Bounds, Found, Hunt, SearchFault};
 pub use texts::{check, draw, explain, explain_json, explain_rows, format, replay, BadTrace};
 
 /// The version of the library that is linked, as 1,000,000 times its first number, 1,000 times its second, and its third.

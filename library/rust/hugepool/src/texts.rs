@@ -22,12 +22,13 @@ impl fmt::Display for BadTrace {
 
 impl Error for BadTrace {}
 
-const NO_MEMORY: u32 = 2;
+pub(crate) const NO_MEMORY: u32 = 2;
 const TOO_SMALL: u32 = 7;
+const LEAST: usize = 4096;
 
-/// What is put into a room that is large enough, or the code.
-fn put(mut call: impl FnMut(*mut u8, usize, *mut usize) -> u32) -> Result<Vec<u8>, u32> {
-    let mut out = vec![0; 4096];
+/// What is put into a room that is large enough, or the code. The first room has so many bytes.
+pub(crate) fn put(least: usize, mut call: impl FnMut(*mut u8, usize, *mut usize) -> u32) -> Result<Vec<u8>, u32> {
+    let mut out = vec![0; least];
     loop {
         let mut needed = 0;
         match call(out.as_mut_ptr(), out.len(), &mut needed) {
@@ -41,9 +42,9 @@ fn put(mut call: impl FnMut(*mut u8, usize, *mut usize) -> u32) -> Result<Vec<u8
     }
 }
 
-fn bad(trace: &[u8], code: u32, line: u32) -> BadTrace {
+pub(crate) fn bad(trace: &[u8], code: u32, line: u32) -> BadTrace {
     // SAFETY: the trace and the room are there, and apart.
-    let told = put(|out, room, needed| unsafe { sys::hugepool_reason(trace.as_ptr(), trace.len(), line, out, room, needed) });
+    let told = put(LEAST, |out, room, needed| unsafe { sys::hugepool_reason(trace.as_ptr(), trace.len(), line, out, room, needed) });
     let reason = match (code, told) {
         (NO_MEMORY, _) => "there was no memory".to_string(),
         (_, Ok(words)) => String::from_utf8_lossy(&words).into_owned(),
@@ -55,7 +56,7 @@ fn bad(trace: &[u8], code: u32, line: u32) -> BadTrace {
 fn text(export: Export, trace: &[u8]) -> Result<String, BadTrace> {
     let mut line = 0;
     // SAFETY: the trace and the room are there, and apart.
-    let made = put(|out, room, needed| unsafe { export(trace.as_ptr(), trace.len(), out, room, needed, &mut line) });
+    let made = put(LEAST, |out, room, needed| unsafe { export(trace.as_ptr(), trace.len(), out, room, needed, &mut line) });
     made.map(|words| String::from_utf8_lossy(&words).into_owned()).map_err(|code| bad(trace, code, line))
 }
 
@@ -74,7 +75,7 @@ type ExportOfLines = unsafe extern "C" fn(*const u8, usize, u32, u32, *mut u8, u
 fn text_of_lines(export: ExportOfLines, trace: &[u8], first: u32, last: u32) -> Result<String, BadTrace> {
     let mut line = 0;
     // SAFETY: the trace and the room are there, and apart.
-    let made = put(|out, room, needed| unsafe { export(trace.as_ptr(), trace.len(), first, last, out, room, needed, &mut line) });
+    let made = put(LEAST, |out, room, needed| unsafe { export(trace.as_ptr(), trace.len(), first, last, out, room, needed, &mut line) });
     made.map(|words| String::from_utf8_lossy(&words).into_owned()).map_err(|code| bad(trace, code, line))
 }
 
@@ -92,10 +93,10 @@ pub fn explain_json(trace: &[u8], first: u32, last: u32) -> Result<String, BadTr
 pub fn format(loose: &[u8]) -> Result<String, BadTrace> {
     let mut line = 0;
     // SAFETY: the text and the room are there, and apart.
-    let made = put(|out, room, needed| unsafe { sys::hugepool_format(loose.as_ptr(), loose.len(), out, room, needed, &mut line) });
+    let made = put(LEAST, |out, room, needed| unsafe { sys::hugepool_format(loose.as_ptr(), loose.len(), out, room, needed, &mut line) });
     made.map(|words| String::from_utf8_lossy(&words).into_owned()).map_err(|_| {
         // SAFETY: the same.
-        let told = put(|out, room, needed| unsafe { sys::hugepool_format_reason(loose.as_ptr(), loose.len(), out, room, needed) });
+        let told = put(LEAST, |out, room, needed| unsafe { sys::hugepool_format_reason(loose.as_ptr(), loose.len(), out, room, needed) });
         let reason = told.map_or_else(|_| "there was no memory".to_string(), |words| String::from_utf8_lossy(&words).into_owned());
         BadTrace { line: u32::try_from(line).unwrap_or(u32::MAX), reason }
     })
