@@ -4,7 +4,7 @@
 # is one that changed the pool: an entry. The bench prints
 #
 # - holds a second of both by wall time, with 1, 2 and 4 threads, on a file each and all on one file,
-#   and with 64 on one file;
+#   and with 64 on one file; and how often so many threads take a lock under which they only count;
 # - how much processor time a task that waits uses;
 # - what the journal costs;
 # - the peak memory of short and long runs whose journal is cut.
@@ -69,13 +69,14 @@ def medians(programs, asked):
 def speeds():
     """Holds a second, by threads and files."""
     print(f"holds a second by the clock, median of {ROUNDS} rounds in turn; cut every {PART * TURN} entries")
-    print(f"{'threads':>7} {'files':8} {'hugepool':>10} {'plain':>10} {'ratio':>6}   of processor time: ratio")
+    print(f"{'threads':>7} {'files':8} {'hugepool':>10} {'plain':>10} {'ratio':>6} {'mutex':>10}   of processor time: ratio")
     # (a pool has no more than 16 files)
     for threads, files in *((it, files) for it in (1, 2, 4) for files in ("own", "one")), (64, "one"):
         entries, (ours, plain) = medians([PROVED, PLAIN_POOL], words(threads, files, TURNS // PART, PART))
+        _, [(alone, _)] = medians([[*PLAIN_POOL, "mutex"]], [str(threads), str(entries // threads)])
         told = {"own": "one each", "one": "one"}[files]
         print(
-            f"{threads:7} {told:8} {entries / ours[0]:10.0f} {entries / plain[0]:10.0f} {ours[0] / plain[0]:6.2f}"
+            f"{threads:7} {told:8} {entries / ours[0]:10.0f} {entries / plain[0]:10.0f} {ours[0] / plain[0]:6.2f} {entries / alone:10.0f}"
             f"   {ours[1] / plain[1]:24.2f}",
             flush=True,
         )

@@ -1,5 +1,6 @@
 //! What crates/hp_pool_bench does, with nothing proved: threads that make calls on a pool behind one lock, with one journal and
-//! a list for each task that are compared at each cut. `bare` in front of the words: no journal, no lists.
+//! a list for each task that are compared at each cut. `bare` in front of the words: no journal, no lists. `mutex THREADS TIMES`:
+//! so many threads take one lock so many times each, and count under it.
 use plain::text::call as parsed;
 use plain::{Answer, Call, Outcome, Phase, Pool, Sizes};
 use std::io::Read;
@@ -163,6 +164,17 @@ fn wait() -> u64 {
     shared.inside.into_inner().expect("no thread panics").made
 }
 
+/// What the lock alone gives.
+fn count(threads: u32, times: u32) -> u64 {
+    let counted = Mutex::new(0);
+    thread::scope(|scope| {
+        for _ in 0..threads {
+            scope.spawn(|| (0..times).for_each(|_| *counted.lock().unwrap() += 1));
+        }
+    });
+    counted.into_inner().unwrap()
+}
+
 fn main() -> ExitCode {
     let mut words: Vec<String> = std::env::args().skip(1).collect();
     let is_bare = words.first().is_some_and(|word| word == "bare");
@@ -170,6 +182,7 @@ fn main() -> ExitCode {
     let number = |at: usize| words[at].parse::<u32>().expect("a number");
     let entries = match words.len() {
         0 => wait(),
+        3 if words[0] == "mutex" => count(number(1), number(2)),
         4 => race(number(0), words[1] == "one", number(2), number(3), is_bare),
         _ => return ExitCode::FAILURE,
     };
