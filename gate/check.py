@@ -21,6 +21,7 @@ from __future__ import annotations
 
 import os
 import re
+import resource
 import shlex
 import shutil
 import signal
@@ -74,6 +75,7 @@ PACKAGES |= {"cargo": "cargo", "node": "nodejs", "pytest": "python3-pytest", "js
 # (modules, and the python that has to have them)
 MODULES = {"pytest": "/usr/bin/python3", "jsonschema": "python3"}
 COUNTS = re.compile(r"^(?:[\w ]+: )?(\d+) passed, (\d+) failed$", re.M)
+BEGAN = time.monotonic()
 # (without a network apt-get gives up soon)
 QUICKLY = ("-o", "Acquire::Retries=0", "-o", "Acquire::http::Timeout=10")
 
@@ -106,7 +108,7 @@ class Gate:
     """What passed and failed so far, and what was left out."""
 
     def __init__(self, lacking: list[str]) -> None:
-        self.lacking, self.passed, self.failed, self.left_out, self.wrong = lacking, 0, 0, [], []
+        self.lacking, self.passed, self.failed, self.left_out, self.wrong, self.took = lacking, 0, 0, [], [], []
 
     def without(self, script: Script) -> str:
         """What a script lacks."""
@@ -128,7 +130,8 @@ class Gate:
         failed = failed or int(ran.returncode != 0)
         self.passed, self.failed = self.passed + passed, self.failed + failed
         self.left_out += re.findall(r"^left out: .*", said, re.M)
-        print(f"check: {name}: {passed} passed, {failed} failed, {time.monotonic() - began:.0f} s", flush=True)
+        print(f"check: {name}: {passed} passed, {failed} failed, {(took := time.monotonic() - began):.0f} s", flush=True)
+        self.took += [f"{name} {took / 60:.0f} min"] if took >= 300 else []
         if failed:
             self.wrong.append(f"== {name}\n{said}")
         return not failed
@@ -148,8 +151,10 @@ class Gate:
             it.result()
 
     def tell(self) -> int:
-        """Prints what was left out, what failed, and the counts, and returns the status."""
-        print("".join([*self.wrong, *(f"{it}\n" for it in self.left_out)]), end="")
+        """Prints what was left out, what failed, how long it took, and the counts, and returns the status."""
+        used, clock = resource.getrusage(resource.RUSAGE_CHILDREN), (time.monotonic() - BEGAN) / 60
+        took = [*self.took, f"all {clock:.0f} min, with {used.ru_utime + used.ru_stime:.0f} s of processor time"]
+        print("".join([*self.wrong, *(f"{it}\n" for it in self.left_out), f"check: {'; '.join(took)}\n"]), end="")
         print(f"{self.passed} passed, {self.failed} failed")
         return 1 if self.failed else 0
 

@@ -9,128 +9,176 @@ uncommitted. With --all it tries all. Where all of a crate are refused, and none
 began stands in that file then: first that of all, and behind it those of crates that were tried later.
 
 The mutants of a crate stand in its folders must-fail/ (those that the toolchain's gate tries too), edits/ and must-not-compile/
-(those that the compiler refuses, with the error that they name). One check tries all wrong bodies of plain functions, as siblings of
-these functions (siblings.py). A sibling counts as refused where a goal of its contract or of its code stays open. All other mutants, and
-those whose sibling isn't refused, are tried one by one by the toolchain (`rt must-fail`).
+(those that the compiler refuses, with the error that they name). The toolchain tries each in its function's place (`rt must-fail`), in a
+copy of the crates.
 
 Reported as faults: a mutant that is still proved; one that no longer applies, or that the prover can't read; one that is refused only
-because a proof names what the mutant removed; a function whose right body isn't proved as its own sibling, so that refusals of siblings
-prove nothing.
+because a proof names what the mutant removed.
 """
 from __future__ import annotations
 
 import argparse
 import os
 import re
+import resource
+import shutil
 import subprocess
 import sys
 import tempfile
-import threading
-from concurrent.futures import ThreadPoolExecutor, as_completed
 from datetime import datetime, timezone
+from itertools import product
 from pathlib import Path
-from typing import Iterable, Iterator
+from typing import Callable, Iterable, NamedTuple
 
-from checks import Check, Scratch
-from edit import Mutant, Result, Texts, mutants_of
-from programs import TOP, crates_of
-from siblings import Family, culprits, family_of, strays
+from programs import TOP, below, crates_of
 
-# the name under which a fault of the crate itself is reported
-UNPROVED = "(none)"
-# one check uses at most so many processors
-MOST_JOBS = 4
+PARTS = ("src", "specs", "proofs")
+NOT_COMPILED = "must-not-compile"
+FOLDERS = ("must-fail", "edits", NOT_COMPILED)
 # what belongs to a mutant's crate: it is due where such a file changed
 OWN = re.compile(r"crates/(\w+)/(?:src|specs|edits|must-fail|must-not-compile)/")
 # a changed line that may change what the prover answers: no comment alone
 SAYS = "^ *([^ /-]|/[^/]|-[^-])"
 TRIED = TOP / "gate" / "tried.txt"
 # what the toolchain says of a mutant that it tried, and how it begins where the mutant is refused for its own sake
-TOLD = re.compile(r"^rt: must-fail \w+/([\w.-]+)\.edit: (.*)$", re.M)
+TOLD = re.compile(r"^rt: must-fail (\w+)/([\w.-]+)\.edit: (.*)$", re.M)
 REFUSED, BY_A_NAME = "refused, as it must be", "only because a proof file names"
-# (`rt must-fail` uses all processors)
-ONE_AT_A_TIME = threading.Lock()
 
 
-def try_in_place(scratch: Scratch, mutants: list[Mutant]) -> list[Result]:
-    """Has the toolchain try mutants in the place of their functions, one by one."""
-    with ONE_AT_A_TIME:
-        told = dict(TOLD.findall(scratch.must_fail(mutants))) if mutants else {}
-    is_refused = lambda said: said.startswith(REFUSED) and BY_A_NAME not in said
-    said = {it.name: told.get(it.name, "NOT TOLD: rt must-fail says nothing of it") for it in mutants}
-    return [Result(name, is_refused(it), "refused" if is_refused(it) else f"NOT REFUSED FOR ITSELF: {it}") for name, it in said.items()]
+class BadEdit(Exception):
+    """Why an edit cannot be tried."""
 
 
-def try_to_compile(crate: Path, scratch: Scratch, mutant: Mutant) -> Result:
-    """Tries a mutant that must not compile."""
-    codes = scratch.compile(Texts(crate).with_pairs(*mutant.pairs))
-    is_refused = mutant.error in codes
-    why = "refused by the compiler" if is_refused else f"NOT REFUSED BY error[{mutant.error}], but by {', '.join(codes) or 'none'}"
-    return Result(mutant.name, is_refused, why)
+class Mutant(NamedTuple):
+    """A mutant's file, its replacements (path, old text, new text) in their order, and the compiler's error that it must cause, if any."""
+
+    file: Path
+    pairs: tuple[tuple[str, str, str], ...]
+    error: str | None
+
+    @property
+    def crate(self) -> Path:
+        return self.file.parent.parent
+
+    def texts(self) -> dict[str, str]:
+        """The files that it changes, as it leaves them. Each old text stands once in its file, as those before it have left that."""
+        after = {}
+        for path, old, new in self.pairs:
+            try:
+                text = after[path] if path in after else (self.crate / path).read_text(encoding="utf-8")
+            except OSError as error:
+                raise BadEdit(f"{path}: {error.strerror}") from None
+            if text.count(old) != 1:
+                raise BadEdit(f"an old text stands {text.count(old)} times in {path}, and not once: {old.strip()[:80]}")
+            after[path] = text.replace(old, new)
+        return after
 
 
-class Trial:
-    """The trial of one crate's mutants, and its results. `room` is where copies are made, `jobs` how many processors it may use."""
-
-    def __init__(self, top: Path, name: str, room: Path, jobs: int) -> None:
-        self.top, self.name, self.crate, self.room, self.jobs = top, name, top / "crates" / name, room, jobs
-        self.results, self.controls, self.cost = [], 0, ""
-
-    def run(self) -> Trial:
-        mutants, self.results = mutants_of(self.crate)
-        scratch = Scratch(self.top, self.name, Path(tempfile.mkdtemp(prefix=f"{self.name}-", dir=self.room)))
-        to_prove = [it for it in mutants if not it.error]
-        refused = self.try_siblings(scratch, family_of(self.crate, to_prove))
-        left = [it for it in to_prove if it not in refused]
-        self.results += try_in_place(scratch, left)
-        self.results += [try_to_compile(self.crate, scratch, it) for it in mutants if it.error]
-        self.cost = f"in {scratch.checks} checks and {scratch.seconds:.0f} s of processor time"
-        return self
-
-    def try_siblings(self, scratch: Scratch, family: Family) -> set[Mutant]:
-        """Tries all siblings in one check, which shows as well whether the crate itself is proved, and returns the mutants that are
-        refused. Siblings that don't compile are left out, and the check is made again."""
-        check = scratch.check(family.texts, self.jobs)
-        while not check.is_judged and (bad := culprits(family, check)):
-            family = family.without(self.crate, bad)
-            check = scratch.check(family.texts, self.jobs)
-        if not check.is_judged:
-            family = family.without(self.crate, {it.mutant for it in family.siblings})
-            check = scratch.check(family.texts, self.jobs)
-        if not check.is_judged or strays(self.crate, family, check):
-            self.results.append(Result(UNPROVED, False, "without any edit the crate isn't proved, so its refusals say nothing"))
-        return self.refused(family, check)
-
-    def refused(self, family: Family, check: Check) -> set[Mutant]:
-        """The mutants whose siblings are refused, where the control of their function is proved."""
-        controls = [it for it in family.siblings if it.mutant is None]
-        wrong = [it for it in controls if not check.is_proved_of(it.function)]
-        faulty = {it.place.function for it in wrong}
-        found = {it.mutant for it in family.siblings if it.mutant and check.is_refused_of(it.function) and it.place.function not in faulty}
-        why = "CONTROL REFUSED: the right body isn't proved as a sibling"
-        self.results += [Result(f"{it.place.function}", False, why) for it in wrong]
-        self.results += [Result(it.name, True, "refused") for it in found]
-        self.controls += len(controls) - len(wrong)
-        return found
-
-    def faults(self) -> list[str]:
-        return [f"  {self.name}/{it.name}: {it.why}" for it in sorted(self.results, key=lambda it: it.name) if not it.is_refused]
+def read(file: Path) -> Mutant:
+    """The mutant that a file spells, in the toolchain's format: lines `file: PATH`, and behind each pairs of lines `old: TEXT` and `new: TEXT`;
+    before them `error: CODE` where it must not compile."""
+    path = old = error = None
+    pairs = []
+    for line in file.read_text(encoding="utf-8").split("\n"):
+        word, _, text = line.partition(":")
+        if word == "file" and Path(text.strip()).parts[:1] in [(part,) for part in PARTS] and ".." not in text:
+            path = text.strip()
+        elif word == "error" and not pairs:
+            error = text.strip()
+        elif word == "old":
+            old = text.removeprefix(" ")
+        elif word == "new" and path and old:
+            pairs.append((path, old, text.removeprefix(" ")))
+            old = None
+        elif line.strip():
+            raise BadEdit(f"a line stands where it can't, or names no file below {', '.join(PARTS)}: {line[:60]}")
+    if old is not None or not pairs:
+        raise BadEdit("it lacks a line 'old:' or 'new:'")
+    if bool(error) != (file.parent.name == NOT_COMPILED):
+        raise BadEdit(f"a line 'error: CODE' stands in the edits of {NOT_COMPILED}/, and only there")
+    return Mutant(file, tuple(pairs), error)
 
 
-def try_crates(top: Path, names: Iterable[str]) -> Iterator[Trial]:
-    """Tries the mutants of these crates side by side, those with the most first, and gives each crate's results as it ends."""
-    lanes = os.cpu_count() or 1
-    numbers = {it: len(mutants_of(top / "crates" / it)[0]) for it in names}
-    jobs = max(1, min(MOST_JOBS, lanes // max(1, len(numbers))))
-    with tempfile.TemporaryDirectory(prefix="mutants-") as name, ThreadPoolExecutor(max(1, lanes // jobs)) as pool:
-        longest_first = sorted(numbers, key=numbers.get, reverse=True)
-        begun = [pool.submit(Trial(top, it, Path(name), jobs).run) for it in longest_first]
-        for it in as_completed(begun):
-            yield it.result()
+def mutants_of(crate: Path) -> tuple[list[Mutant], dict[str, str]]:
+    """The crate's mutants, and what is wrong with files that spell none or no longer apply."""
+    found, bad = {}, {}
+    for file in sorted(it for folder in FOLDERS for it in (crate / folder).glob("*") if it.suffix != ".md"):
+        try:
+            if file.suffix != ".edit" or file.stem in found:
+                raise BadEdit("its name ends neither in .edit nor, if it is only to be read, in .md, or another edit has it")
+            mutant = read(file)
+            mutant.texts()
+            found[file.stem] = mutant
+        except (BadEdit, UnicodeDecodeError) as error:
+            bad[file.stem] = f"BAD EDIT: {error}"
+    return [*found.values()], bad
+
+
+def link_or_copy(source: str, to: str) -> None:
+    """Libraries are only read, so a link to each file does; where there are none, a copy."""
+    try:
+        os.link(source, to)
+    except OSError:
+        shutil.copyfile(source, to)
+
+
+def bring(source: Path, to: Path, copy: Callable[[str, str], object] = shutil.copy2) -> None:
+    if source.is_dir():
+        shutil.copytree(source, to, copy_function=copy, dirs_exist_ok=True)
+
+
+def copy_crates(names: list[str], top: Path) -> None:
+    """Copies these crates and those below them, with what was proved of them, for the toolchain."""
+    crates = crates_of(TOP)
+    every = {*names, *(low for it in names for low in below(it, crates))}
+    (top / "crates.txt").write_text("".join(f"{it}: {' '.join(crates[it])}\n" for it in crates if it in every), encoding="utf-8")
+    shutil.copyfile(TOP / "HANDLES", top / "HANDLES")
+    for it, part in product(every, PARTS):
+        bring(TOP / "crates" / it / part, top / "crates" / it / part)
+    for it in every:
+        bring(TOP / "crates" / it / "out" / "rlib", top / "crates" / it / "out" / "rlib", link_or_copy)
+    for it in names:
+        bring(TOP / "crates" / it / "out" / "incremental", top / "crates" / it / "out" / "incremental")
+
+
+def run(words: list[str], folder: Path) -> str:
+    """What a command of the toolchain prints."""
+    how = {"stdin": subprocess.DEVNULL, "stdout": subprocess.PIPE, "stderr": subprocess.STDOUT, "text": True, "errors": "replace"}
+    return subprocess.run(words, cwd=folder, **how).stdout
+
+
+def try_to_compile(mutant: Mutant, folder: Path) -> str | None:
+    """What is wrong with a mutant that must not compile, if anything is."""
+    texts = mutant.texts()
+    for path, text in texts.items():
+        (folder / path).write_text(text, encoding="utf-8")
+    codes = re.findall(r"^\S+:\d+:\d+: error\[([\w-]+)\]: ", run(["rt", "check", "--only", ""], folder), re.M)
+    for path in texts:
+        shutil.copyfile(mutant.crate / path, folder / path)
+    return None if mutant.error in codes else f"NOT REFUSED BY error[{mutant.error}], but by {', '.join(codes) or 'none'}"
+
+
+def try_crate(name: str, top: Path) -> tuple[int, dict[str, str]]:
+    """Tries a crate's mutants, and returns how many there are, and what is wrong with which."""
+    mutants, wrong = mutants_of(TOP / "crates" / name)
+    folder = top / "crates" / name
+    (folder / "must-fail").mkdir()
+    for it in mutants:
+        if not it.error:
+            shutil.copyfile(it.file, folder / "must-fail" / it.file.name)
+    said = run(["rt", "must-fail", name], top)
+    told = {edit: answer for of, edit, answer in TOLD.findall(said) if of == name}
+    for it in mutants:
+        answer = told.get(it.file.stem, f"NOT TOLD: rt must-fail says nothing of it, but {said.strip()[-200:]!r}")
+        if it.error:
+            wrong |= {it.file.stem: fault} if (fault := try_to_compile(it, folder)) else {}
+        elif not answer.startswith(REFUSED) or BY_A_NAME in answer:
+            wrong[it.file.stem] = f"NOT REFUSED FOR ITSELF: {answer}"
+    return len(mutants), wrong
 
 
 def build_libraries(names: Iterable[str]) -> bool:
-    """Has the libraries below these crates proved and built, where they aren't. A crate's own proof comes with its mutants."""
+    """Has these crates and the libraries below them proved and built, where they aren't."""
     words = [sys.executable, str(TOP / "launcher" / "launch.py"), "libraries", *names]
     return subprocess.run(words, stdin=subprocess.DEVNULL).returncode == 0
 
@@ -175,29 +223,32 @@ def note_tried(names: Iterable[str], began: datetime, is_all: bool) -> None:
     TRIED.write_text("".join(f"{line}\n" for line in lines), encoding="utf-8")
 
 
-def try_all(picked: set[str], is_all: bool) -> int:
+def seconds() -> float:
+    """The processor time of the commands that ended."""
+    used = resource.getrusage(resource.RUSAGE_CHILDREN)
+    return used.ru_utime + used.ru_stime
+
+
+def try_all(picked: list[str], is_all: bool) -> int:
     """Tries the mutants of these crates, and returns the status."""
     refused, faults, began = 0, [], datetime.now(timezone.utc)
-    if not build_libraries(sorted(picked)):
+    if not build_libraries(picked):
         print("check: the libraries below these crates aren't proved, so no mutant was tried")
         return 1
-    for tried in try_crates(TOP, picked):
-        wrong, number = tried.faults(), len(tried.results)
-        told = f"{tried.name}: {number - len(wrong)} of {number} mutants refused, {tried.controls} controls proved, {tried.cost}"
-        print("\n".join([told, *wrong]), flush=True)
-        refused, faults = refused + number - len(wrong), faults + wrong
-        note_tried([] if wrong or is_all else [tried.name], began, False)
+    with tempfile.TemporaryDirectory(prefix="mutants-") as room:
+        copy_crates(picked, Path(room))
+        for name in picked:
+            before = seconds()
+            number, wrong = try_crate(name, Path(room))
+            lines = [f"  {name}/{it}: {why}" for it, why in wrong.items()]
+            told = f"{name}: {number - len(wrong)} of {number} mutants refused, in {seconds() - before:.0f} s of processor time"
+            print("\n".join([told, *lines]), flush=True)
+            refused, faults = refused + number - len(wrong), faults + lines
+            note_tried([] if wrong or is_all else [name], began, False)
     # (once more, since the lines of other crates may stand behind them)
     print("\n".join([*faults, f"mutants: {refused} passed, {len(faults)} failed"]))
     note_tried([], began, is_all and not faults)
     return 1 if faults else 0
-
-
-def apply(numbers: dict[str, int]) -> int:
-    """Says whether each mutant of all crates still applies, and tries none."""
-    bad = [f"  {name}/{it.name}: {it.why}\n" for name in crates_of(TOP) for it in mutants_of(TOP / "crates" / name)[1]]
-    print(f"{''.join(bad)}mutants apply: {sum(numbers.values())} passed, {len(bad)} failed")
-    return 1 if bad else 0
 
 
 def main() -> int:
@@ -206,17 +257,19 @@ def main() -> int:
     words.add_argument("--all", action="store_true", help="try the mutants of all crates")
     words.add_argument("--apply", action="store_true", help="try none, and say whether each applies")
     given = words.parse_args()
-    numbers = {it: len(mutants_of(TOP / "crates" / it)[0]) for it in crates_of(TOP)}
-    unknown = [it for it in given.crates if it not in numbers]
-    if unknown:
+    every = {it: mutants_of(TOP / "crates" / it) for it in crates_of(TOP)}
+    numbers = {name: len(found) for name, (found, _) in every.items() if found}
+    if unknown := [it for it in given.crates if it not in every]:
         words.error(f"crates.txt has no crate {unknown[0]}")
     if given.apply:
-        return apply(numbers)
-    every = {it for it, number in numbers.items() if number}
-    picked = every if given.all else set(given.crates) & every if given.crates else due(TOP, TRIED.read_text(encoding="utf-8"), every)
+        bad = [f"  {name}/{it}: {why}\n" for name, (_, wrong) in every.items() for it, why in wrong.items()]
+        print(f"{''.join(bad)}mutants apply: {sum(numbers.values())} passed, {len(bad)} failed")
+        return 1 if bad else 0
+    picked = {*numbers} if given.all else {*given.crates} & {*numbers}
+    picked = picked if given.all or given.crates else due(TOP, TRIED.read_text(encoding="utf-8"), {*numbers})
     few = sum(numbers[it] for it in picked)
     print(f"mutants: {few} of {sum(numbers.values())} are due, in {len(picked)} crates: {' '.join(sorted(picked))}", flush=True)
-    return try_all(picked, given.all) if picked else 0
+    return try_all(sorted(picked), given.all) if picked else 0
 
 
 if __name__ == "__main__":

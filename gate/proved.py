@@ -16,7 +16,6 @@ from functools import cache
 from pathlib import Path
 from typing import Iterator, NamedTuple
 
-import edit
 from programs import TOP, crates_of, report
 
 CRATES = TOP / "crates"
@@ -28,6 +27,10 @@ NO_CALL = re.compile(r"^Without a call of their name: (.*?)\n\n", re.M | re.S)
 CLAUSE = re.compile(r"^ *ensures(?: (\w+))? \{", re.M)
 REEXPORT = re.compile(r"^pub use ([^;]+);", re.M)
 DEFINITION = re.compile(r"^ *(?:(?:abbrev|unfoldable) )?pub (?:record |data )?([^\s:{(]+)", re.M)
+# (the sources are in the formatter's layout, so an item ends with the brace below its first letter, and have no modules within a file)
+FUNCTION = re.compile(r"^( *)(?:pub(?:\([^)]*\))? )?(?:const )?(?:extern \"C\" )?fn (\w+)")
+IMPL = re.compile(r"^( *)impl\b(.*)")
+TRAIT = re.compile(r"^( *)(?:pub(?:\([^)]*\))? )?trait (\w+)")
 # what an impl says besides its functions: what its type always keeps, field by field, and what it writes
 SAID = re.compile(r"^    ghost (invariant|output) = \{(.*?)\};$", re.M | re.S)
 
@@ -56,6 +59,62 @@ class Function(NamedTuple):
         return {name} & self.names() or {clause for clause, text in self.clauses if is_defined(name) and word.search(text)}
 
 
+def last_name(path: str) -> str:
+    """The last name of a type or trait, without its parameters."""
+    return re.sub(r"<.*", "", path.strip()).rpartition("::")[2].lstrip("&")
+
+
+def without_parameters(text: str) -> str:
+    """What stands behind the parameters `<..>` that a head begins with."""
+    depth = 0
+    for at, letter in enumerate(text):
+        depth += (letter == "<") - (letter == ">")
+        if depth == 0 and letter != "<":
+            return text[at + 1:] if letter == ">" else text[at:]
+    return ""
+
+
+def end_of(lines: list[str], first: int, indent: str) -> int:
+    """The line at which an item that begins at this line ends."""
+    depth = 0
+    for at in range(first, len(lines)):
+        line = lines[at]
+        if line in (f"{indent}}}", f"{indent}{{}}"):
+            return at
+        depth += line.count("{") - line.count("}")
+        is_on_one_line = at == first and "{" in line and line.endswith("}")
+        if depth == 0 and (line.endswith(";") or is_on_one_line):
+            return at
+    return len(lines) - 1
+
+
+class Block(NamedTuple):
+    """An impl or a trait: its lines, counted from 0, and its names."""
+
+    first: int
+    last: int
+    type: str | None = None
+    trait: str | None = None
+
+
+def blocks(lines: list[str]) -> Iterator[Block]:
+    for at, line in enumerate(lines):
+        if made := IMPL.match(line):
+            head = without_parameters(made[2].strip()).split(" {")[0].split(" where ")[0]
+            trait, is_of, kind = head.partition(" for ")
+            yield Block(at, end_of(lines, at, made[1]), last_name(kind or trait), last_name(trait) if is_of else None)
+        elif made := TRAIT.match(line):
+            yield Block(at, end_of(lines, at, made[1]), trait=made[2])
+
+
+def head_of(lines: list[str], first: int, indent: str) -> str:
+    """A function's signature and its clauses."""
+    last = end_of(lines, first, indent)
+    begins = re.compile(rf"{indent}(\{{\}}|\{{|\S.*[^ ] \{{)$")
+    body = next((at for at in range(first, last + 1) if begins.match(lines[at])), first)
+    return "\n".join(lines[first:last + 1 if lines[last].endswith(";") else body])
+
+
 def clauses_in(head: str) -> tuple[tuple[str, str], ...]:
     """The clauses of a function's head."""
     _, *pieces = re.split(CLAUSE, re.sub(r"^ *(?:requires .*|//.*\n)", "", head, flags=re.M))
@@ -76,11 +135,13 @@ def contracts(crate: str) -> tuple[Function, ...]:
     for file in sorted((CRATES / crate / "src").rglob("*.rt")):
         path, text = str(file.relative_to(CRATES)), file.read_text(encoding="utf-8")
         lines = text.split("\n")
-        for it, first, last in edit.functions(path.partition("/")[2], text):
-            head = lines[first:last + 1 if lines[last].endswith(";") else edit.body_of(lines, first, last)]
-            is_public = it.trait is not None or lines[first].lstrip().startswith("pub ")
-            found.append(Function(crate, path, it.type, it.trait, it.name, is_public, clauses_in("\n".join(head))))
-        for of in edit.blocks(lines):
+        around = [*blocks(lines)]
+        for first, made in ((at, made) for at, line in enumerate(lines) if (made := FUNCTION.match(line))):
+            of = next((it for it in around if it.first < first <= it.last), Block(first, first))
+            is_public = of.trait is not None or lines[first].lstrip().startswith("pub ")
+            clauses = clauses_in(head_of(lines, first, made[1]))
+            found.append(Function(crate, path, of.type, of.trait, made[2], is_public, clauses))
+        for of in around:
             rest = said("\n".join(lines[of.first:of.last]))
             found += [Function(crate, path, of.type, of.trait, name, False, clauses) for name, clauses in rest]
     return tuple(found)
