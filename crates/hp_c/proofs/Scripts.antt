@@ -1,5 +1,6 @@
 -- Why nothing is found in a script.
-use Rattle.std.proofs.Common.{arith, ◌≡◌, ◌<◌, ◌≤◌, ◌⊎◌, List, ℕ, length, subst}
+use Rattle.std.proofs.Common.{arith, ◌≡◌, ◌∙◌, ◌<◌, ◌≤◌, ◌⊎◌, List, ℕ, inl, inr, length, subst, sym}
+use Rattle.std.specs.Prelude.{None, Some}
 use Rattle.hp_base.specs.Text.{sizes}
 use Rattle.hp_conditions.specs.Lines.{IsFaultOf}
 use Rattle.hp_conditions.specs.declared.lines.ConditionsFault.{ConditionsFault}
@@ -62,6 +63,12 @@ pub within_met : (a : Question) (limits : Limits) (every : Reachability) (trace 
     → length trace.events.items < limits.turns
 within_met a limits every trace is h = subst (IsWithin a limits) is h
 
-pub within_cut : (a : Question) (limits : Limits) (every : Reachability) (turns : ℕ) → every ≡ Cut turns → IsWithin a limits every
-    → ((turns ≡ limits.turns) × AreLong a turns) ⊎ IsTooMany a limits.states turns
-within_cut a limits every turns is h = subst (IsWithin a limits) is h
+pub within_cut : (a : Question) (limits : Limits) (every : Reachability) (turns : ℕ) → every ≡ Cut turns → limits.bytes ≡ None
+    → IsWithin a limits every → ((turns ≡ limits.turns) × AreLong a turns) ⊎ IsTooMany a limits.states turns
+within_cut a limits every turns is unlimited h = elim (subst (IsWithin a limits) is h) [
+  | inl long ↦ inl long
+  | inr wide ↦ elim wide [
+    | inl many ↦ inr many
+    | inr heavy ↦ absurd (let e : None ≡ Some heavy.many.0 = sym unlimited ∙ heavy.many.1 in cc)
+  ]
+]

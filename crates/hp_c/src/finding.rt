@@ -22,7 +22,7 @@ const MOST_TURNS: u32 = 1_000_000;
 struct Silent;
 
 impl Progress for Silent {
-    fn layer(&mut self, _turns: u32, _states: usize) {}
+    fn layer(&mut self, _turns: u32, _states: usize, _bytes: u64) {}
 }
 
 fn found_run(
@@ -91,6 +91,7 @@ fn found_schedule(
     let limits = Limits {
         turns: MOST_TURNS,
         states: bounds.states as usize,
+        bytes: None,
     };
     let every = find_every_alone(
         alloc,

@@ -283,8 +283,17 @@ pub(crate) const KILLS: Choice = Choice {
 pub(crate) const STATES: Choice = Choice {
     name: "states",
     form: "N",
-    takes: Takes::Number(Some("1000000"), 1, 4_294_967_295),
+    takes: Takes::Number(None, 1, 4_294_967_295),
     help: "With --every: maximum number of states kept at once, some 500 bytes each",
+    conflicts: &[],
+    needs: &["every"],
+};
+
+pub(crate) const MEMORY: Choice = Choice {
+    name: "memory",
+    form: "M",
+    takes: Takes::Number(None, 1, 4_294_967_295),
+    help: "With --every: maximum memory for states, in MiB; default: half of what is free",
     conflicts: &[],
     needs: &["every"],
 };

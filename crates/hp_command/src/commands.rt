@@ -65,7 +65,7 @@ pub(crate) const EXPLORE: Row = Row {
     told: SCRIPTS,
     operand: Operand::File,
     choices: &[
-        SEED, RUNS, DENY, KILL, AUDIT, SUMMARY, ALL, DENIALS, KILLS, STATES, OBJECTS, LOOSE_FORM,
+        SEED, RUNS, DENY, KILL, AUDIT, SUMMARY, ALL, DENIALS, KILLS, STATES, MEMORY, OBJECTS, LOOSE_FORM,
         COLOR,
     ],
 };
@@ -86,7 +86,7 @@ pub(crate) const SCHEDULE: Row = Row {
     told: SCRIPTS,
     operand: Operand::File,
     choices: &[
-        SEED, RUN, DENY, KILL, ENDING, DENIALS, KILLS, STATES, OBJECTS, LOOSE_FORM,
+        SEED, RUN, DENY, KILL, ENDING, DENIALS, KILLS, STATES, MEMORY, OBJECTS, LOOSE_FORM,
     ],
 };
 
@@ -98,7 +98,7 @@ pub(crate) const FIND: Row = Row {
     operand: Operand::File,
     choices: &[
         ANSWER, AT, BLOCKED, MEET, FINAL, REST, ANYWHERE, LIMIT, SEED, DENY, KILL, EVERY, DENIALS,
-        KILLS, STATES, OBJECTS, LOOSE_FORM,
+        KILLS, STATES, MEMORY, OBJECTS, LOOSE_FORM,
     ],
 };
 

@@ -50,7 +50,11 @@ fn bounds(given: &ArgMatches) -> EveryBounds {
     EveryBounds {
         denials: number(given, "denials", 0),
         kills: number(given, "kills", 0),
-        states: number(given, "states", 1_000_000),
+        states: number(given, "states", u32::MAX),
+        memory: match given.get_one::<u32>("memory") {
+            Some(mebibytes) => Some(u64::from(mebibytes) << 20),
+            None => None,
+        },
     }
 }
 
@@ -95,11 +99,13 @@ fn finding(alloc: Global, given: &ArgMatches) -> Result<ScriptRequest, Error> {
             denials,
             kills,
             states,
+            memory,
         } = bounds(given);
         return Ok(ScriptRequest::FindEvery(EverySearch {
             denials,
             kills,
             states,
+            memory,
             conditions,
         }));
     }

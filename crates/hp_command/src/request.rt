@@ -27,8 +27,9 @@ pub struct EverySearch {
     /// So many steps may be denied, and so many tasks killed, in each schedule.
     pub denials: u32,
     pub kills: u32,
-    /// So many states are kept at once, at most.
+    /// So many states are kept at once, at most, and they take so many bytes, or as many as they do.
     pub states: u32,
+    pub memory: Option<u64>,
     pub conditions: Vec<Condition>,
 }
 
@@ -38,8 +39,9 @@ pub struct EveryBounds {
     /// So many steps may be denied, and so many tasks killed, in each schedule.
     pub denials: u32,
     pub kills: u32,
-    /// So many states are kept at once, at most.
+    /// So many states are kept at once, at most, and they take so many bytes, or as many as they do.
     pub states: u32,
+    pub memory: Option<u64>,
 }
 
 /// Of which way to end a schedule is written as a trace.

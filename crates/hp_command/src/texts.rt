@@ -30,8 +30,8 @@ the same each time. A script whose header begins with script, in place of pool, 
 before a begin of another task: that call begins once all calls of TASK on earlier lines have ended.
 With --every, explore prints a line for each way in which schedules end, of all orders in which the tasks can make their
 steps: how many schedules end so, the events of a shortest one, the counts, and each call with its answer. If the limit
-of --states is reached first, nothing is printed, and the status is 3. schedule --every --run K prints a shortest
-schedule of line K of them, counted from 0; the status is 1 where there are no more than K lines.
+of --states or --memory is reached first, nothing is printed, and the status is 3. schedule --every --run K prints
+a shortest schedule of line K of them, counted from 0; the status is 1 where there are no more than K lines.
 docs/TRACES.md and hugepool replay --help describe traces. Examples:
   hugepool explore --seed 7 --runs 3 examples/truncate-against-store.script
   hugepool explore --every examples/truncate-against-fault.script
@@ -95,7 +95,8 @@ an alternative behind 'not ' is met where what it says isn't found in the whole 
 With --every all schedules of the script are searched: every order in which the tasks can make their steps, with at
 most --denials failed allocations and --kills killed tasks at any place. The trace is one of the shortest. If no
 schedule meets the conditions, standard error says so and the status is 1: no seed and no number of runs finds one.
-If the limit of --states is reached first, standard error says in how many events none does, and the status is 3.
+If the limit of --states or --memory is reached first, standard error says in how many events none does, and the
+status is 3.
 Whole schedules are asked where --final, --rest or not is given, else their beginnings, too. After a fault the
 status is 2.
 A script has the calls that tasks make (hugepool explore --help). Some stand in examples/:

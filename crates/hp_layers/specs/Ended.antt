@@ -3,7 +3,7 @@ use Rattle.std.specs.Prelude.{◌≡◌, ◌<◌, ◌≤◌, ◌⊎◌, ℕ, Boo
 use Rattle.hp_layers.specs.declared.ending.EndingTable.{EndingTable}
 use Rattle.hp_layers.specs.declared.ending.EndingTable.TheVariants.{Whole, Cut}
 use Rattle.hp_layers.specs.declared.limits.Limits.{Limits}
-use Rattle.hp_layers.specs.Layers.{IsCrowded, IsLong, IsReached}
+use Rattle.hp_layers.specs.Layers.{IsCrowded, IsHeavy, IsLong, IsReached}
 
 -- what is alike ends alike, and endings that are equal are one
 pub record EndsAlike {S E : Type 0} (eq : E → E → Bool) (alike : S → S → Type 0) (ending : S → Option E) : Type 0 where
@@ -51,13 +51,14 @@ AreRight turn ending first (Whole counts) =
 AreRight turn ending first (Cut counts turns) =
     ((n : ℕ) → n < turns → HasEndings turn ending first counts.states.items n) × AreShortest turn ending first counts.states.items
 
--- Endings are cut where so many turns are made as the limit, and runs didn't end before, or where there are too many states. Where they are
--- whole, nothing is reached in as many turns.
-unfoldable pub AreCutAtLimits : {S K : Type 0} → (eq : K → K → Bool) → (key_of : S → K) → (turn : S → S → Type 0) → (first : S) → Limits
-    → EndingTable S → Type 0
-AreCutAtLimits {S} eq key_of turn first limits (Whole counts) = (n : ℕ) (s : S) → limits.turns ≤ n → IsReached turn first n s → ⊥
-AreCutAtLimits eq key_of turn first limits (Cut counts turns) =
+-- Endings are cut where so many turns are made as the limit, and runs didn't end before, where there are too many states, or where these take
+-- too many bytes. Where they are whole, nothing is reached in as many turns.
+unfoldable pub AreCutAtLimits : {S K : Type 0} → (eq : K → K → Bool) → (key_of : S → K) → (turn : S → S → Type 0)
+    → (bytes_of : S → ℕ) → (first : S) → Limits → EndingTable S → Type 0
+AreCutAtLimits {S} eq key_of turn bytes_of first limits (Whole counts) = (n : ℕ) (s : S) → limits.turns ≤ n → IsReached turn first n s → ⊥
+AreCutAtLimits eq key_of turn bytes_of first limits (Cut counts turns) =
     ((turns ≡ limits.turns) × IsLong turn first turns) ⊎ IsCrowded eq key_of turn first limits.states turns
+    ⊎ IsHeavy eq key_of turn bytes_of first limits.bytes turns
 
 -- whether the ending has a place
 abbrev pub has_place : {E : Type 0} → (place : E → Option ℕ) → E → Bool

@@ -1,5 +1,5 @@
 -- Layers of states: those that are reached in exactly so many turns, up to states that are as good.
-use Rattle.std.specs.Prelude.{◌≡◌, ◌<◌, ◌+◌, ◌++◌, ◌∷◌, ◌⊎◌, [], ℕ, zero, suc, Bool, true, List, Contains, length, slice_index_or}
+use Rattle.std.specs.Prelude.{◌≡◌, ◌<◌, ◌≤◌, ◌+◌, ◌++◌, ◌∷◌, ◌⊎◌, [], ℕ, zero, suc, Bool, true, List, Contains, length, slice_index_or, Option, Some}
 use Rattle.std.specs.List.{IsDistinct, list_any}
 use Rattle.hp_layers.specs.declared.limits.Limits.{Limits}
 use Rattle.hp_layers.specs.declared.verdict.Verdict.{Verdict}
@@ -68,6 +68,33 @@ pub record LacksRoom {S K : Type 0} (eq : K → K → Bool) (key_of : S → K) (
   pub many : room < length keys
   pub each : (k : K) → list_any (eq k) keys ≡ true → (s t : S) × Contains states s × turn s t × (eq (key_of t) k ≡ true)
 
+-- how many bytes the states take together
+abbrev pub bytes_in : {S : Type 0} → (bytes_of : S → ℕ) → List S → ℕ
+bytes_in bytes_of [] = 0
+bytes_in bytes_of (s ∷ states) = bytes_of s + bytes_in bytes_of states
+
+-- That many bytes do the states take together. The largest number of 64 bits stands for as many or more.
+pub record AreBytes {S : Type 0} (bytes_of : S → ℕ) (states : List S) (bytes : ℕ) : Type 0 where
+  pub at_most : bytes ≤ bytes_in bytes_of states
+  pub exact : bytes < 18446744073709551615 → bytes ≡ bytes_in bytes_of states
+
+-- the number is over the limit, if there is one
+abbrev pub IsOver : ℕ → (limit : Option ℕ) → Type 0
+IsOver n limit = (most : ℕ) × (limit ≡ Some most) × (most < n)
+
+-- there is room for so many states, and for so many bytes
+abbrev pub Fits : (states bytes room : ℕ) → (space : Option ℕ) → Type 0
+Fits states bytes room space = (states ≤ room) × ((most : ℕ) → space ≡ Some most → bytes ≤ most)
+
+-- States that come after one of those, no two of which have equal keys, take more bytes than there is room for, if that is limited.
+pub record LacksBytes {S K : Type 0} (eq : K → K → Bool) (key_of : S → K) (turn : S → S → Type 0) (bytes_of : S → ℕ) (states : List S)
+    (room : Option ℕ) : Type 0 where
+  pub others : List S
+  pub keys : List K
+  pub apart : AreKeysOf eq key_of keys others
+  pub many : IsOver (bytes_in bytes_of others) room
+  pub each : (t : S) → Contains others t → (s : S) × Contains states s × turn s t
+
 -- these are reached in so many turns, and cover all that are
 pub record IsLayer {S : Type 0} (turn alike : S → S → Type 0) (first : S) (turns : ℕ) (layer : List S) : Type 0 where
   pub reached : (t : S) → Contains layer t → IsReached turn first turns t
@@ -123,15 +150,34 @@ pub record IsCrowded {S K : Type 0} (eq : K → K → Bool) (key_of : S → K) (
   pub behind : AreReached eq key_of turn first turns others
   pub many : limit < length some + length others
 
+-- These states are reached in exactly so many turns, and no two of them have equal keys.
+pub record AreReachedApart {S K : Type 0} (eq : K → K → Bool) (key_of : S → K) (turn : S → S → Type 0) (first : S) (turns : ℕ)
+    (states : List S) : Type 0 where
+  pub keys : List K
+  pub apart : AreKeysOf eq key_of keys states
+  pub each : (s : S) → Contains states s → IsReached turn first turns s
+
+-- states that are reached in exactly so many turns, and in one turn fewer, take more bytes than the limit, if there is one
+pub record IsHeavy {S K : Type 0} (eq : K → K → Bool) (key_of : S → K) (turn : S → S → Type 0) (bytes_of : S → ℕ) (first : S)
+    (limit : Option ℕ) (turns : ℕ) : Type 0 where
+  pub before : ℕ
+  pub next : turns ≡ before + 1
+  pub some : List S
+  pub others : List S
+  pub here : AreReachedApart eq key_of turn first before some
+  pub behind : AreReachedApart eq key_of turn first turns others
+  pub many : IsOver (bytes_in bytes_of some + bytes_in bytes_of others) limit
+
 -- something is reached in each number of turns below that
 unfoldable pub IsLong : {S : Type 0} → (turn : S → S → Type 0) → (first : S) → (turns : ℕ) → Type 0
 IsLong {S} turn first n = (m : ℕ) → m < n → (s : S) × IsReached turn first m s
 
--- A search is cut where it has made as many turns as the limit, and what it searches didn't end before, or where there are too many states.
--- What it finds is found in fewer turns.
-unfoldable pub IsCutAtLimits : {S K : Type 0} → (eq : K → K → Bool) → (key_of : S → K) → (turn : S → S → Type 0) → (first : S) → Limits
-    → Verdict S → Type 0
-IsCutAtLimits eq key_of turn first limits Never = Unit {0}
-IsCutAtLimits eq key_of turn first limits (Met s turns) = turns < limits.turns
-IsCutAtLimits eq key_of turn first limits (Cut turns) =
+-- A search is cut where it has made as many turns as the limit, and what it searches didn't end before, where there are too many states, or
+-- where they take too many bytes. What it finds is found in fewer turns.
+unfoldable pub IsCutAtLimits : {S K : Type 0} → (eq : K → K → Bool) → (key_of : S → K) → (turn : S → S → Type 0) → (bytes_of : S → ℕ)
+    → (first : S) → Limits → Verdict S → Type 0
+IsCutAtLimits eq key_of turn bytes_of first limits Never = Unit {0}
+IsCutAtLimits eq key_of turn bytes_of first limits (Met s turns) = turns < limits.turns
+IsCutAtLimits eq key_of turn bytes_of first limits (Cut turns) =
     ((turns ≡ limits.turns) × IsLong turn first turns) ⊎ IsCrowded eq key_of turn first limits.states turns
+    ⊎ IsHeavy eq key_of turn bytes_of first limits.bytes turns

@@ -1,10 +1,12 @@
 //! All endings of runs: of each a shortest run, and how many runs end so.
-ghost use Rattle.std.specs.Prelude.{◌≡◌, [], IfOk, OnOk, Option, Some, length};
+ghost use Rattle.std.specs.Prelude.{◌≡◌, ◌∷◌, [], IfOk, OnOk, Option, Some, length};
 ghost use Rattle.std.specs.HashMap.{get};
 ghost use Rattle.hp_layers.specs.Ended.{AreCutAtLimits, AreRight, AreTaken, EndsAlike, TakesOne, has_place};
+ghost use Rattle.hp_layers.specs.Layers.{AreBytes};
 ghost use Rattle.hp_layers.specs.Named.{AddsSeat, AreAllTold, AreEach, AreNamed, IsIndexed, TakesWays};
 
-use crate::counting::{RunCounts, add_ways, next_counts};
+use crate::counting::{CountedLayer, RunCounts, add_ways, next_counts, no_counts};
+use crate::layer::room_behind;
 use crate::limits::Limits;
 use crate::progress::Progress;
 use crate::turns::Turns;
@@ -106,15 +108,21 @@ pub enum EndingTable<S> {
     Cut { counts: RunCounts<S>, turns: u32 },
 }
 
-/// No state yet.
-fn no_counts<S: Drop>(alloc: Global) -> RunCounts<S>
-    ensures states { result.states.items ≡ [] }
-    ensures ways { result.ways.items ≡ [] }
+/// The layer of the first state, to which there is one way.
+fn first_counts<M: Turns>(
+    alloc: Global,
+    system: &M,
+    first: M::State,
+) -> Result<CountedLayer<M::State>, AllocError>
+    ensures states { IfOk result (λ layer. layer.counts.states.items ≡ first ∷ []) }
+    ensures ways { IfOk result (λ layer. layer.counts.ways.items ≡ 1 ∷ []) }
+    ensures bytes { IfOk result (λ layer. AreBytes (M.bytes_of system.now) layer.counts.states.items layer.bytes) }
 {
-    RunCounts {
-        states: Vec::new(alloc),
-        ways: Vec::new(alloc),
-    }
+    let bytes = system.bytes(&first);
+    let mut counts = no_counts(alloc);
+    counts.states.push(first)?;
+    counts.ways.push(1)?;
+    Ok(CountedLayer { counts, bytes })
 }
 
 /// The endings of all runs, in the order of their turns, up to the limits.
@@ -130,21 +138,19 @@ pub fn endings<M: Ends + Sync>(
     ensures right { IfOk result (AreRight (M.turn system.now) (M.ending_of system.now) first) }
     ensures counted { IfOk result (AreAllTold (M.step system.now) (M.ending_of system.now) first) }
     // It doesn't give up before.
-    ensures cut { IfOk result (AreCutAtLimits M.Key.eq (M.key_of system.now) (M.turn system.now) first limits) }
+    ensures cut { IfOk result (AreCutAtLimits M.Key.eq (M.key_of system.now) (M.turn system.now) (M.bytes_of system.now) first limits) }
 {
     let mut places = HashMap::new(alloc);
     let mut counts = no_counts(alloc);
-    let mut layer = no_counts(alloc);
-    layer.states.push(first)?;
-    layer.ways.push(1)?;
+    let mut layer = first_counts(alloc, system, first)?;
     for turns in 0..limits.turns {
-        if layer.states.is_empty() {
+        if layer.counts.states.is_empty() {
             return Ok(EndingTable::Whole(counts));
         }
-        progress.layer(turns, layer.states.len());
-        let room = limits.states.saturating_sub(layer.states.len());
-        let next = next_counts(rt, alloc, system, &layer, room)?;
-        take_counts(alloc, system, &mut places, &mut counts, layer)?;
+        progress.layer(turns, layer.counts.states.len(), layer.bytes);
+        let room = room_behind(limits, layer.counts.states.len(), layer.bytes);
+        let next = next_counts(rt, alloc, system, &layer.counts, room)?;
+        take_counts(alloc, system, &mut places, &mut counts, layer.counts)?;
         let Some(next) = next else {
             let turns = turns + 1;
             return Ok(EndingTable::Cut { counts, turns });

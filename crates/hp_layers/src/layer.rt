@@ -1,9 +1,11 @@
 //! One layer from the one before it.
-ghost use Rattle.std.specs.Prelude.{◌≡◌, ◌++◌, ◌⊎◌, ◌∷◌, [], ◌<◌, List, IfNone, IfOk, IfSome, None, OnOk};
+ghost use Rattle.std.specs.Prelude.{◌≡◌, ◌↔◌, ◌++◌, ◌⊎◌, ◌∷◌, [], ◌-◌, ◌<◌, List, IfNone, IfOk, IfSome, IsTrue, None, OnOk, length};
 ghost use Rattle.std.specs.HashSet.{contains};
-ghost use Rattle.hp_layers.specs.Layers.{AddsAll, AddsSome, AreCounted, AreKeysOf, AreNext, AreValid, IsCovered, KeysStand, LacksRoom};
-ghost use Rattle.hp_layers.specs.Layers.{MeetsAt, NoneIsMet};
+ghost use Rattle.std.specs.Option.{option_map};
+ghost use Rattle.hp_layers.specs.Layers.{AddsAll, AddsSome, AreBytes, AreCounted, AreKeysOf, AreNext, AreValid, IsCovered, KeysStand};
+ghost use Rattle.hp_layers.specs.Layers.{Fits, IsOver, LacksBytes, LacksRoom, MeetsAt, NoneIsMet};
 
+use crate::limits::Limits;
 use crate::parts::{After, part_len, part_of};
 use crate::turns::Turns;
 use hp_workers::next_made;
@@ -11,27 +13,92 @@ use std::alloc::{AllocError, Global};
 use std::collections::HashSet;
 use std::thread::Threads;
 
+/// The states of a layer, and how many bytes they take: the largest number stands for as many or more.
+#[derive(Drop)]
+pub(crate) struct Layer<S> {
+    pub(crate) states: Vec<S>,
+    pub(crate) bytes: u64,
+}
+
+/// A layer of no state.
+pub(crate) fn no_layer<S: Drop>(alloc: Global) -> Layer<S>
+    ensures states { result.states.items ≡ [] }
+    ensures bytes { result.bytes ≡ 0 }
+{
+    let states = Vec::new(alloc);
+    Layer { states, bytes: 0 }
+}
+
+/// The layer of the first state.
+pub(crate) fn first_layer<M: Turns>(
+    alloc: Global,
+    system: &M,
+    first: M::State,
+) -> Result<Layer<M::State>, AllocError>
+    ensures states { IfOk result (λ layer. layer.states.items ≡ first ∷ []) }
+    ensures bytes { IfOk result (λ layer. AreBytes (M.bytes_of system.now) layer.states.items layer.bytes) }
+{
+    let bytes = system.bytes(&first);
+    let mut states = Vec::new(alloc);
+    states.push(first)?;
+    Ok(Layer { states, bytes })
+}
+
+/// How many states there may be in a layer, and how many bytes they may take.
+#[derive(Clone, Copy)]
+pub(crate) struct Room {
+    pub(crate) states: usize,
+    pub(crate) bytes: Option<u64>,
+}
+
+/// Whether a layer of so many states and bytes has more than there is room for.
+pub(crate) fn exceeds(states: usize, bytes: u64, room: Room) -> bool
+    ensures { IsTrue result ↔ (room.states < states) ⊎ IsOver bytes room.bytes }
+{
+    match room.bytes {
+        Some(most) => states > room.states || bytes > most,
+        None => states > room.states,
+    }
+}
+
+/// The room that this layer leaves for the one behind it.
+pub(crate) fn room_behind(limits: Limits, states: usize, bytes: u64) -> Room
+    ensures states { result.states ≡ limits.states - states }
+    ensures bytes { result.bytes ≡ option_map (λ most. most - bytes) limits.bytes }
+{
+    Room {
+        states: limits.states.saturating_sub(states),
+        bytes: match limits.bytes {
+            Some(most) => Some(most.saturating_sub(bytes)),
+            None => None,
+        },
+    }
+}
+
 /// Adds the state to those that come next, unless one with its key is among them.
 fn add<M: Turns>(
     alloc: Global,
     system: &M,
     seen: &mut HashSet<M::Key>,
-    next: &mut Vec<M::State>,
+    next: &mut Layer<M::State>,
     state: M::State,
 ) -> Result<(), AllocError>
     requires state { M.valid system.now state }
-    requires next { AreValid (M.valid system.now) next.old.items }
-    requires stand { KeysStand (M.Key.eq) (M.key_of system.now) (contains M.Key.eq seen.old) next.old.items }
-    requires counted { AreCounted M.Key.eq seen.old.keys next.old.items }
-    ensures next { OnOk result (AreValid (M.valid system.now) next.new.items) }
-    ensures stand { OnOk result (KeysStand (M.Key.eq) (M.key_of system.now) (contains M.Key.eq seen.new) next.new.items) }
-    ensures counted { OnOk result (AreCounted M.Key.eq seen.new.keys next.new.items) }
-    ensures covered { OnOk result (IsCovered (M.alike system.now) next.new.items state) }
-    ensures grows { OnOk result (AddsSome next.old.items state next.new.items) }
+    requires next { AreValid (M.valid system.now) next.old.states.items }
+    requires stand { KeysStand (M.Key.eq) (M.key_of system.now) (contains M.Key.eq seen.old) next.old.states.items }
+    requires counted { AreCounted M.Key.eq seen.old.keys next.old.states.items }
+    requires bytes { AreBytes (M.bytes_of system.now) next.old.states.items next.old.bytes }
+    ensures next { OnOk result (AreValid (M.valid system.now) next.new.states.items) }
+    ensures stand { OnOk result (KeysStand (M.Key.eq) (M.key_of system.now) (contains M.Key.eq seen.new) next.new.states.items) }
+    ensures counted { OnOk result (AreCounted M.Key.eq seen.new.keys next.new.states.items) }
+    ensures bytes { OnOk result (AreBytes (M.bytes_of system.now) next.new.states.items next.new.bytes) }
+    ensures covered { OnOk result (IsCovered (M.alike system.now) next.new.states.items state) }
+    ensures grows { OnOk result (AddsSome next.old.states.items state next.new.states.items) }
 {
     let key = system.key(alloc, &state)?;
     if seen.insert(key)? {
-        next.push(state)?;
+        next.bytes = next.bytes.saturating_add(system.bytes(&state));
+        next.states.push(state)?;
     }
     Ok(())
 }
@@ -41,17 +108,19 @@ pub(crate) fn add_all<M: Turns>(
     alloc: Global,
     system: &M,
     seen: &mut HashSet<M::Key>,
-    next: &mut Vec<M::State>,
+    next: &mut Layer<M::State>,
     states: Vec<M::State>,
 ) -> Result<(), AllocError>
     requires states { AreValid (M.valid system.now) states.items }
-    requires next { AreValid (M.valid system.now) next.old.items }
-    requires stand { KeysStand (M.Key.eq) (M.key_of system.now) (contains M.Key.eq seen.old) next.old.items }
-    requires counted { AreCounted M.Key.eq seen.old.keys next.old.items }
-    ensures next { OnOk result (AreValid (M.valid system.now) next.new.items) }
-    ensures stand { OnOk result (KeysStand (M.Key.eq) (M.key_of system.now) (contains M.Key.eq seen.new) next.new.items) }
-    ensures counted { OnOk result (AreCounted M.Key.eq seen.new.keys next.new.items) }
-    ensures added { OnOk result (AddsAll (M.alike system.now) next.old.items states.items next.new.items) }
+    requires next { AreValid (M.valid system.now) next.old.states.items }
+    requires stand { KeysStand (M.Key.eq) (M.key_of system.now) (contains M.Key.eq seen.old) next.old.states.items }
+    requires counted { AreCounted M.Key.eq seen.old.keys next.old.states.items }
+    requires bytes { AreBytes (M.bytes_of system.now) next.old.states.items next.old.bytes }
+    ensures next { OnOk result (AreValid (M.valid system.now) next.new.states.items) }
+    ensures stand { OnOk result (KeysStand (M.Key.eq) (M.key_of system.now) (contains M.Key.eq seen.new) next.new.states.items) }
+    ensures counted { OnOk result (AreCounted M.Key.eq seen.new.keys next.new.states.items) }
+    ensures bytes { OnOk result (AreBytes (M.bytes_of system.now) next.new.states.items next.new.bytes) }
+    ensures added { OnOk result (AddsAll (M.alike system.now) next.old.states.items states.items next.new.states.items) }
 {
     let mut left = states;
     while let Some(state) = left.pop() {
@@ -60,22 +129,26 @@ pub(crate) fn add_all<M: Turns>(
     Ok(())
 }
 
-/// The layer behind this one, unless it has more states than there is room for.
+/// The layer behind this one, unless there isn't room for it.
 pub(crate) fn next_layer<M: Turns + Sync>(
     rt: &(impl Threads + Sync),
     alloc: Global,
     system: &M,
     layer: &[M::State],
-    room: usize,
-) -> Result<Option<Vec<M::State>>, AllocError>
+    room: Room,
+) -> Result<Option<Layer<M::State>>, AllocError>
     requires layer { AreValid (M.valid system.now) layer.now }
-    ensures next { IfOk result (λ next. IfSome next (λ states. AreNext (M.turn system.now) (M.alike system.now) layer.now states.items)) }
-    ensures keys { IfOk result (λ next. IfSome next (λ states.
-        (keys : List M.Key) × AreKeysOf M.Key.eq (M.key_of system.now) keys states.items)) }
-    ensures none { IfOk result (λ next. IfNone next (LacksRoom M.Key.eq (M.key_of system.now) (M.turn system.now) layer.now room)) }
+    ensures next { IfOk result (λ next. IfSome next (λ behind.
+        AreNext (M.turn system.now) (M.alike system.now) layer.now behind.states.items)) }
+    ensures keys { IfOk result (λ next. IfSome next (λ behind.
+        (keys : List M.Key) × AreKeysOf M.Key.eq (M.key_of system.now) keys behind.states.items)) }
+    ensures bytes { IfOk result (λ next. IfSome next (λ behind. AreBytes (M.bytes_of system.now) behind.states.items behind.bytes)) }
+    ensures fits { IfOk result (λ next. IfSome next (λ behind. Fits (length behind.states.items) behind.bytes room.states room.bytes)) }
+    ensures none { IfOk result (λ next. IfNone next (LacksRoom M.Key.eq (M.key_of system.now) (M.turn system.now) layer.now room.states
+        ⊎ LacksBytes M.Key.eq (M.key_of system.now) (M.turn system.now) (M.bytes_of system.now) layer.now room.bytes)) }
 {
     let mut seen = HashSet::new(alloc);
-    let mut next = Vec::new(alloc);
+    let mut next = no_layer(alloc);
     let mut begin = 0;
     let mut ahead = Vec::new(alloc);
     for place in 0..layer.len() {
@@ -89,7 +162,7 @@ pub(crate) fn next_layer<M: Turns + Sync>(
         let at = (place - begin) as u32;
         let after = next_made(rt, alloc, &part, states, &mut ahead, at)?;
         add_all(alloc, system, &mut seen, &mut next, after)?;
-        if next.len() > room {
+        if exceeds(next.states.len(), next.bytes, room) {
             return Ok(None);
         }
     }

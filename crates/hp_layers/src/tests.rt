@@ -33,6 +33,8 @@ impl Turns for Wanted {
 
     ghost key_of = { λ m s. s };
 
+    ghost bytes_of = { λ m s. 8 };
+
     fn after(&self, alloc: Global, state: &u32) -> Result<Vec<u32>, AllocError> {
         let mut next = Vec::new(alloc);
         if *state >= 3 {
@@ -45,6 +47,11 @@ impl Turns for Wanted {
     fn key(&self, alloc: Global, state: &u32) -> Result<u32, AllocError> {
         let _ = alloc;
         Ok(*state)
+    }
+
+    fn bytes(&self, state: &u32) -> u64 {
+        let _ = state;
+        8
     }
 
     fn is_met(&self, state: &u32) -> bool {
@@ -97,8 +104,8 @@ struct Told {
 }
 
 impl Progress for Told {
-    fn layer(&mut self, turns: u32, states: usize) {
-        let _ = states;
+    fn layer(&mut self, turns: u32, states: usize, bytes: u64) {
+        let _ = (states, bytes);
         self.layers = self.layers.saturating_add(1);
         self.last = turns;
     }
@@ -124,6 +131,7 @@ fn counts(rt: HostRuntime) {
     let wide = Limits {
         turns: 9,
         states: 9,
+        bytes: None,
     };
     let met = found(&rt, rt.alloc(), 2, wide);
     assert!(rt; matches!(met, Ok((2, 2))));
@@ -136,15 +144,24 @@ fn limits_run_out(rt: HostRuntime) {
     let few_turns = Limits {
         turns: 2,
         states: 9,
+        bytes: None,
     };
     let cut = found(&rt, rt.alloc(), 3, few_turns);
     assert!(rt; matches!(cut, Ok((200, 2))));
     let few_states = Limits {
         turns: 9,
         states: 1,
+        bytes: None,
     };
     let narrow = found(&rt, rt.alloc(), 3, few_states);
     assert!(rt; matches!(narrow, Ok((200, 1))));
+    let few_bytes = Limits {
+        turns: 9,
+        states: 9,
+        bytes: Some(15),
+    };
+    let light = found(&rt, rt.alloc(), 3, few_bytes);
+    assert!(rt; matches!(light, Ok((200, 1))));
 }
 
 /// The only ending that there is, and in how many ways the counter comes there, if the table is whole and has one.
@@ -169,12 +186,14 @@ fn ends(rt: HostRuntime) {
     let wide = Limits {
         turns: 9,
         states: 9,
+        bytes: None,
     };
     let ended = only_ending(&rt, rt.alloc(), wide);
     assert!(rt; matches!(ended, Ok(Some((3, 8)))));
     let few_turns = Limits {
         turns: 2,
         states: 9,
+        bytes: None,
     };
     let cut = only_ending(&rt, rt.alloc(), few_turns);
     assert!(rt; matches!(cut, Ok(None)));

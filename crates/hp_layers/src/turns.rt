@@ -1,5 +1,5 @@
 //! What has turns: what may come after a state, and which states are as good as each other.
-ghost use Rattle.std.specs.Prelude.{◌≡◌, ◌↔◌, true, Bool, IfOk, IsTrue};
+ghost use Rattle.std.specs.Prelude.{◌≡◌, ◌↔◌, ℕ, true, Bool, IfOk, IsTrue};
 ghost use Rattle.hp_layers.specs.Layers.{AreAllAfter, IsAsGood};
 
 use std::alloc::{AllocError, Global};
@@ -26,6 +26,9 @@ pub trait Turns {
 
     ghost key_of: { Self → Self.State → Self.Key };
 
+    // how many bytes the state takes, with its key
+    ghost bytes_of: { Self → Self.State → ℕ };
+
     /// States that one turn leads to. Each that it may lead to is there, or one that is as good. It is called once for each state of a
     /// layer, and looks at no other state.
     fn after(&self, alloc: Global, state: &Self::State) -> Result<Vec<Self::State>, AllocError>
@@ -35,6 +38,10 @@ pub trait Turns {
     /// The key of the state.
     fn key(&self, alloc: Global, state: &Self::State) -> Result<Self::Key, AllocError>
         ensures { IfOk result (λ key. key ≡ key_of self.now state.now) };
+
+    /// How many bytes the state takes, with its key.
+    fn bytes(&self, state: &Self::State) -> u64
+        ensures { result ≡ bytes_of self.now state.now };
 
     /// Whether what is looked for holds of the state.
     fn is_met(&self, state: &Self::State) -> bool

@@ -12,7 +12,7 @@ use Rattle.hp_every.specs.Schedules.{IsShortest, NoScheduleMeets, ScheduleMeets}
 use Rattle.hp_every.specs.Search.{Question}
 use Rattle.hp_layers.specs.declared.limits.Limits.{Limits}
 use Rattle.hp_program.specs.Answers.{NotDone, OfScript}
-use Rattle.hp_search.specs.Searching.{AreLong, IsAnswer, IsTooMany, IsWithin}
+use Rattle.hp_search.specs.Searching.{AreLong, IsAnswer, IsTooHeavy, IsTooMany, IsWithin}
 use Rattle.hp_search.specs.declared.reachability.Reachability.{Reachability}
 use Rattle.hp_search.specs.declared.reachability.Reachability.TheVariants.{Never, Met, Cut}
 use Rattle.hp_script_commands.specs.Searching.{FindsEvery, FindsEveryPartly, IsShortestOf, IsShortestText, MissesEvery}
@@ -68,7 +68,7 @@ answer_cut a every turns is h = subst (IsAnswer a) is h
 
 -- a search that is cut is cut at its limits
 pub within_cut : (a : Question) (limits : Limits) (every : Reachability) (turns : ℕ) → every ≡ Cut turns → IsWithin a limits every
-    → ((turns ≡ limits.turns) × AreLong a turns) ⊎ IsTooMany a limits.states turns
+    → ((turns ≡ limits.turns) × AreLong a turns) ⊎ IsTooMany a limits.states turns ⊎ IsTooHeavy a limits.bytes turns
 within_cut a limits every turns is h = subst (IsWithin a limits) is h
 
 -- a script was read, and this schedule of it found

@@ -10,7 +10,7 @@ use Rattle.hp_program.proofs.Buffered.{all_of, holds}
 use Rattle.hp_program.specs.Answers.{NotDone, OfScript}
 use Rattle.hp_every.specs.Search.{Question}
 use Rattle.hp_layers.specs.declared.limits.Limits.{Limits}
-use Rattle.hp_search.specs.Endings.{AreAllEndings, AreAllRows, AreTooMany, AreWithin}
+use Rattle.hp_search.specs.Endings.{AreAllEndings, AreAllRows, AreTooHeavy, AreTooMany, AreWithin}
 use Rattle.hp_search.specs.Searching.{AreLong}
 use Rattle.hp_search.specs.declared.endings.EndingRow.{EndingRow}
 use Rattle.hp_search.specs.declared.endings.EndingRows.{EndingRows}
@@ -59,7 +59,7 @@ unfolding AreWithin
 rows_within a limits every rows is h = subst (AreWithin a limits) is h
 
 pub cut_within : (a : Question) (limits : Limits) (every : EndingRows) (turns : ℕ) → every ≡ Cut turns → AreWithin a limits every
-    → ((turns ≡ limits.turns) × AreLong a turns) ⊎ AreTooMany a limits.states turns
+    → ((turns ≡ limits.turns) × AreLong a turns) ⊎ AreTooMany a limits.states turns ⊎ AreTooHeavy a limits.bytes turns
 unfolding AreWithin
 cut_within a limits every turns is h = subst (AreWithin a limits) is h
 

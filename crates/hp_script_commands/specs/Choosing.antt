@@ -2,7 +2,7 @@
 use Rattle.std.specs.Prelude.{◌≡◌, ◌≤◌, ◌⊎◌, ℕ, Bool, List, Option, None, Some, Result, length, slice_get}
 use Rattle.std.specs.Io.KnownBytes.{Appends}
 use Rattle.hp_base.specs.Text.{Sizes, sizes}
-use Rattle.hp_search.specs.Endings.{AreAllRows, AreTooMany}
+use Rattle.hp_search.specs.Endings.{AreAllRows, AreTooHeavy, AreTooMany}
 use Rattle.hp_search.specs.Searching.{AreLong}
 use Rattle.hp_search.specs.declared.endings.EndingRow.{EndingRow}
 use Rattle.hp_program.specs.Answers.{AnsweredHunt, OfScript}
@@ -48,11 +48,13 @@ Chooses = ChoosesSo Appends
 abbrev pub ChoosesPartly : EndingChoice → (from to before after : Option (List ℕ)) → Type 0
 ChoosesPartly = ChoosesSo Wrote
 
--- there is no such row; or the limits ran out: schedules go on up to a million turns, or have more places with answers than may be looked at
+-- there is no such row; or the limits ran out: schedules go on up to a million turns, or have more places with answers,
+-- or take more memory, than may be
 unfoldable pub HasNoRow : EndingChoice → (cut : Option ℕ) → Script → Type 0
 HasNoRow c None script = (rows : List EndingRow) × AreAllRows (schedules_of c.bounds script) rows × (length rows ≤ c.run)
 HasNoRow c (Some turns) script =
     ((turns ≡ 1000000) × AreLong (schedules_of c.bounds script) turns) ⊎ AreTooMany (schedules_of c.bounds script) c.bounds.states turns
+    ⊎ AreTooHeavy (schedules_of c.bounds script) c.bounds.memory turns
 
 -- a script was read of which this is so
 pub record MissesEnding (c : EndingChoice) (cut : Option ℕ) (from to : Option (List ℕ)) : Type 0 where

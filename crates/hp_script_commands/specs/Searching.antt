@@ -6,7 +6,7 @@ use Rattle.hp_base.specs.declared.event.Event.{Event}
 use Rattle.hp_watch.specs.Moments.{Moment}
 use Rattle.hp_every.specs.Schedules.{IsShortest, NoScheduleMeets, ScheduleMeets}
 use Rattle.hp_every.specs.Search.{Question}
-use Rattle.hp_search.specs.Searching.{AreLong, IsTooMany}
+use Rattle.hp_search.specs.Searching.{AreLong, IsTooHeavy, IsTooMany}
 use Rattle.hp_program.specs.Answers.{AnsweredHunt, OfScript}
 use Rattle.hp_text.specs.ScriptLines.{HasLinesFault, ReadsScript}
 use Rattle.hp_text.specs.Traces.{trace_text}
@@ -41,13 +41,14 @@ pub record FindsEveryPartly (s : EverySearch) (from to before after : Option (Li
 abbrev pub asked_of : EverySearch → Script → Question
 asked_of s script = record { script = script; denials = s.denials; kills = s.kills; conditions = s.conditions.items }
 
--- no schedule meets the conditions, or none of fewer turns than that: a million, up to which schedules go on, or as many as have more places
--- than may be looked at
+-- no schedule meets the conditions, or none of fewer turns than that: a million, up to which schedules go on, or as many as have more places,
+-- or take more memory, than may be
 abbrev pub NoneOf : EverySearch → (cut : Option ℕ) → Script → Type 0
 NoneOf s None script = NoScheduleMeets script s.denials s.kills s.conditions.items
 NoneOf s (Some turns) script =
     ((moments : List Moment) → ScheduleMeets script s.denials s.kills s.conditions.items moments → turns ≤ length moments)
-    × (((turns ≡ 1000000) × AreLong (asked_of s script) turns) ⊎ IsTooMany (asked_of s script) s.states turns)
+    × (((turns ≡ 1000000) × AreLong (asked_of s script) turns) ⊎ IsTooMany (asked_of s script) s.states turns
+    ⊎ IsTooHeavy (asked_of s script) s.memory turns)
 
 -- a script was read of which this is so
 pub record MissesEvery (s : EverySearch) (cut : Option ℕ) (from to : Option (List ℕ)) : Type 0 where

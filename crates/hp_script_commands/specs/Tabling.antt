@@ -7,7 +7,7 @@ use Rattle.hp_base.specs.Text.{sizes}
 use Rattle.hp_layers.specs.Weighed.{most}
 use Rattle.hp_layers.specs.declared.limits.Limits.{Limits}
 use Rattle.hp_every.specs.Search.{Question}
-use Rattle.hp_search.specs.Endings.{AreAllRows, AreTooMany}
+use Rattle.hp_search.specs.Endings.{AreAllRows, AreTooHeavy, AreTooMany}
 use Rattle.hp_search.specs.Searching.{AreLong}
 use Rattle.hp_search.specs.declared.endings.EndingRow.{EndingRow}
 use Rattle.hp_summary.specs.SummaryText.{call_text}
@@ -61,15 +61,17 @@ pub record TabulatesPartly (b : EveryBounds) (from to before after : Option (Lis
 
 -- a schedule has fewer than a million turns
 abbrev pub limits_of : EveryBounds → Limits
-limits_of b = record { turns = 1000000; states = b.states }
+limits_of b = record { turns = 1000000; states = b.states; bytes = b.memory }
 
--- a script was read, and the limits ran out: schedules go on up to a million turns, or have more places with answers than may be looked at
+-- a script was read, and the limits ran out: schedules go on up to a million turns, or have more places with answers,
+-- or take more memory, than may be
 pub record IsCutShort (b : EveryBounds) (cut : Option ℕ) (from to : Option (List ℕ)) : Type 0 where
   pub script : Script
   pub turns : ℕ
   pub reads : ReadsScript from to (sizes script.config) script.calls.items script.waits.items
   pub at : cut ≡ Some turns
   pub why : ((turns ≡ 1000000) × AreLong (schedules_of b script) turns) ⊎ AreTooMany (schedules_of b script) b.states turns
+      ⊎ AreTooHeavy (schedules_of b script) b.memory turns
 
 -- the table of all endings of the script's schedules
 pub record IsTableText (b : EveryBounds) (script : Script) (text : List ℕ) : Type 0 where

@@ -98,23 +98,24 @@ fn write_layer(
     faults: &mut impl Write,
     turns: u32,
     states: u64,
-    milliseconds: u64,
+    rate: u64,
+    mebibytes: u64,
 ) -> io::Result<()> {
-    let rate = states.saturating_mul(1000) / milliseconds.max(1);
     write!(
         faults,
-        "\r\x1b[Khugepool: {turns} turns, {states} states, {rate} a second"
+        "\r\x1b[Khugepool: {turns} turns, {states} states, {rate} a second, {mebibytes} MiB"
     )
 }
 
 impl<'a, C: Clock, F: Report> layers::Progress for ProgressLine<'a, C, F> {
-    fn layer(&mut self, turns: u32, states: usize) {
+    fn layer(&mut self, turns: u32, states: usize, bytes: u64) {
         self.states = self.states.saturating_add(states as u64);
         let Some(milliseconds) = self.milliseconds() else {
             return;
         };
         if milliseconds >= SOON {
-            self.is_shown = write_layer(self.faults, turns, self.states, milliseconds).is_ok();
+            let rate = self.states.saturating_mul(1000) / milliseconds.max(1);
+            self.is_shown = write_layer(self.faults, turns, self.states, rate, bytes >> 20).is_ok();
         }
     }
 }

@@ -75,6 +75,7 @@ fn find_in_all<R: Source, W: Sink>(
     let limits = Limits {
         turns: MOST_TURNS,
         states: search.states as usize,
+        bytes: search.memory,
     };
     let conditions = search.conditions.as_slice();
     let mut progress = ProgressLine::new(rt, faults);

@@ -115,6 +115,7 @@ pub(crate) fn all_endings<R: Source>(
     let limits = Limits {
         turns: MOST_TURNS,
         states: bounds.states as usize,
+        bytes: bounds.memory,
     };
     let mut progress = ProgressLine::new(rt, faults);
     let every = explore_every(rt, alloc, &script, budget, limits, &mut progress);

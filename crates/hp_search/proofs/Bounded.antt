@@ -7,7 +7,7 @@ use Rattle.std.proofs.lemmas.List.Elements.{Contains-get_or}
 use Rattle.std.proofs.lemmas.Map.Views.{list_any-from_Contains}
 use Rattle.hp_base.specs.declared.event.Event.{Event}
 use Rattle.hp_layers.specs.Ended.{AreCutAtLimits, AreShortest}
-use Rattle.hp_layers.specs.Layers.{AreReached, IsCrowded, IsLong, IsReached}
+use Rattle.hp_layers.specs.Layers.{AreReached, AreReachedApart, IsCrowded, IsHeavy, IsLong, IsReached}
 use Rattle.hp_layers.specs.declared.counting.RunCounts.{RunCounts}
 use Rattle.hp_layers.specs.declared.ending.EndingTable.{EndingTable}
 use Rattle.hp_layers.specs.declared.ending.EndingTable.TheVariants.{Whole, Cut}
@@ -19,23 +19,24 @@ use Rattle.hp_every.proofs.Answers.{turn_count}
 use Rattle.hp_every.proofs.Endings.{reached_so}
 use Rattle.hp_every.proofs.Good.{run_of}
 use Rattle.hp_every.proofs.Runs.{event_count}
-use Rattle.hp_search.specs.Endings.{AreEndKeysOf, AreRowsOf, AreTooMany}
+use Rattle.hp_search.specs.Endings.{AreEndKeysOf, AreEndsApart, AreRowsOf, AreTooHeavy, AreTooMany, end_bytes}
 use Rattle.hp_search.specs.Searching.{AreLong}
 use Rattle.hp_search.specs.declared.endings.EndingRow.{EndingRow}
 
 -- ---- what the layers say of their limits
 
-pub whole_within : {S K : Type 0} (eq : K → K → Bool) (key_of : S → K) (turn : S → S → Type 0) (first : S) (limits : Limits)
-    (table : EndingTable S) (counts : RunCounts S) → table ≡ Whole counts → AreCutAtLimits eq key_of turn first limits table
+pub whole_within : {S K : Type 0} (eq : K → K → Bool) (key_of : S → K) (turn : S → S → Type 0) (bytes_of : S → ℕ) (first : S)
+    (limits : Limits) (table : EndingTable S) (counts : RunCounts S) → table ≡ Whole counts → AreCutAtLimits eq key_of turn bytes_of first limits table
     → (n : ℕ) (s : S) → limits.turns ≤ n → IsReached turn first n s → ⊥
 unfolding AreCutAtLimits
-whole_within eq key_of turn first limits table counts is h = subst (AreCutAtLimits eq key_of turn first limits) is h
+whole_within eq key_of turn bytes_of first limits table counts is h = subst (AreCutAtLimits eq key_of turn bytes_of first limits) is h
 
-pub cut_within : {S K : Type 0} (eq : K → K → Bool) (key_of : S → K) (turn : S → S → Type 0) (first : S) (limits : Limits)
-    (table : EndingTable S) (counts : RunCounts S) (n : ℕ) → table ≡ Cut counts n → AreCutAtLimits eq key_of turn first limits table
+pub cut_within : {S K : Type 0} (eq : K → K → Bool) (key_of : S → K) (turn : S → S → Type 0) (bytes_of : S → ℕ) (first : S)
+    (limits : Limits) (table : EndingTable S) (counts : RunCounts S) (n : ℕ) → table ≡ Cut counts n → AreCutAtLimits eq key_of turn bytes_of first limits table
     → ((n ≡ limits.turns) × IsLong turn first n) ⊎ IsCrowded eq key_of turn first limits.states n
+    ⊎ IsHeavy eq key_of turn bytes_of first limits.bytes n
 unfolding AreCutAtLimits
-cut_within eq key_of turn first limits table counts n is h = subst (AreCutAtLimits eq key_of turn first limits) is h
+cut_within eq key_of turn bytes_of first limits table counts n is h = subst (AreCutAtLimits eq key_of turn bytes_of first limits) is h
 
 -- ---- what that says of schedules
 
@@ -69,6 +70,15 @@ end_keys a first is empty n keys h = record {
       record { state = s.0; right = at.0; long = at.1; is = sym ((bytes_decides s.0.key key).0 s.2) });
 }
 
+-- what is reached are schedules
+ends_apart : (a : Question) (first : EndState) → IsEndState a first → first.path.turns ≡ [] → (n : ℕ) (ends : List EndState)
+    → AreReachedApart (pointwise nat_eq) (λ (s : EndState). s.key) (GoesOnBy a) first n ends → AreEndsApart a n ends
+ends_apart a first is empty n ends h = record {
+  keys = h.keys;
+  apart = h.apart;
+  each = λ s c. reached_so a first is empty n s (h.each s c);
+}
+
 -- a schedule has each number of turns in which something is reached
 long_ends : (a : Question) (first : EndState) → IsEndState a first → first.path.turns ≡ [] → (n : ℕ) → IsLong (GoesOnBy a) first n
     → AreLong a n
@@ -81,17 +91,29 @@ long_ends a first is empty n long m few =
 -- a table that is cut is cut at its limits
 pub cut_at : (a : Question) (limits : Limits) (first : EndState) → IsEndState a first → first.path.turns ≡ [] → (n : ℕ)
     → (((n ≡ limits.turns) × IsLong (GoesOnBy a) first n)
-    ⊎ IsCrowded (pointwise nat_eq) (λ (s : EndState). s.key) (GoesOnBy a) first limits.states n)
-    → ((n ≡ limits.turns) × AreLong a n) ⊎ AreTooMany a limits.states n
+    ⊎ IsCrowded (pointwise nat_eq) (λ (s : EndState). s.key) (GoesOnBy a) first limits.states n
+    ⊎ IsHeavy (pointwise nat_eq) (λ (s : EndState). s.key) (GoesOnBy a) end_bytes first limits.bytes n)
+    → ((n ≡ limits.turns) × AreLong a n) ⊎ AreTooMany a limits.states n ⊎ AreTooHeavy a limits.bytes n
 cut_at a limits first is empty n cut = elim cut [
   | inl turns ↦ inl (turns.0, long_ends a first is empty n turns.1)
-  | inr crowd ↦ inr (record {
-    before = crowd.before;
-    next = crowd.next;
-    some = crowd.some;
-    others = crowd.others;
-    here = end_keys a first is empty crowd.before crowd.some crowd.here;
-    behind = end_keys a first is empty n crowd.others crowd.behind;
-    many = crowd.many;
-  })
+  | inr wide ↦ inr (elim wide [
+    | inl crowd ↦ inl (record {
+      before = crowd.before;
+      next = crowd.next;
+      some = crowd.some;
+      others = crowd.others;
+      here = end_keys a first is empty crowd.before crowd.some crowd.here;
+      behind = end_keys a first is empty n crowd.others crowd.behind;
+      many = crowd.many;
+    })
+    | inr heavy ↦ inr (record {
+      before = heavy.before;
+      next = heavy.next;
+      some = heavy.some;
+      others = heavy.others;
+      here = ends_apart a first is empty heavy.before heavy.some heavy.here;
+      behind = ends_apart a first is empty n heavy.others heavy.behind;
+      many = heavy.many;
+    })
+  ])
 ]

@@ -10,7 +10,7 @@ use Rattle.hp_base.specs.declared.event.Event.{Event}
 use Rattle.hp_laws.proofs.Deciding.{clash}
 use Rattle.hp_core.specs.State.{CoreState}
 use Rattle.hp_watch.specs.Moments.{Moment, last_of}
-use Rattle.hp_layers.specs.Layers.{AreReached, IsCrowded, IsCutAtLimits, IsLong, IsRight, IsShortest, NoneBefore, NoneMeets}
+use Rattle.hp_layers.specs.Layers.{AreReached, AreReachedApart, IsCrowded, IsCutAtLimits, IsHeavy, IsLong, IsRight, IsShortest, NoneBefore, NoneMeets}
 use Rattle.hp_layers.specs.declared.limits.Limits.{Limits}
 use Rattle.hp_layers.specs.declared.verdict.Verdict.{Verdict}
 use Rattle.hp_layers.specs.declared.verdict.Verdict.TheVariants.{Never, Met, Cut}
@@ -29,7 +29,8 @@ use Rattle.hp_every.proofs.Runs.{event_count}
 use Rattle.hp_every.proofs.Sames.{last_core}
 use Rattle.hp_search.specs.declared.position.Position.{Position}
 use Rattle.hp_search.specs.declared.reachability.Reachability.{Reachability}
-use Rattle.hp_search.specs.Searching.{AreKeysOf, AreLong, HasEvents, IsAt, IsSearched, IsTooMany, IsWithin, place_of}
+use Rattle.hp_search.specs.Searching.{AreKeysOf, AreLong, ArePathsApart, HasEvents, IsAt, IsSearched, IsTooHeavy, IsTooMany, IsWithin}
+use Rattle.hp_search.specs.Searching.{path_bytes, place_of}
 use Rattle.hp_search.proofs.Made.{has_at}
 
 -- ---- whether it meets all conditions
@@ -115,16 +116,17 @@ pub right_cut : {S : Type 0} (turn : S → S → Type 0) (meets : S → Type 0) 
 unfolding IsRight
 right_cut turn meets first n v is h = subst (IsRight turn meets first) is h
 
-pub right_within : {S K : Type 0} (eq : K → K → Bool) (key_of : S → K) (turn : S → S → Type 0) (limits : Limits) (first s : S) (n : ℕ)
-    (v : Verdict S) → v ≡ Met s n → IsCutAtLimits eq key_of turn first limits v → n < limits.turns
+pub right_within : {S K : Type 0} (eq : K → K → Bool) (key_of : S → K) (turn : S → S → Type 0) (bytes_of : S → ℕ) (limits : Limits)
+    (first s : S) (n : ℕ) (v : Verdict S) → v ≡ Met s n → IsCutAtLimits eq key_of turn bytes_of first limits v → n < limits.turns
 unfolding IsCutAtLimits
-right_within eq key_of turn limits first s n v is h = subst (IsCutAtLimits eq key_of turn first limits) is h
+right_within eq key_of turn bytes_of limits first s n v is h = subst (IsCutAtLimits eq key_of turn bytes_of first limits) is h
 
-pub right_cut_at : {S K : Type 0} (eq : K → K → Bool) (key_of : S → K) (turn : S → S → Type 0) (limits : Limits) (first : S) (n : ℕ)
-    (v : Verdict S) → v ≡ Cut n → IsCutAtLimits eq key_of turn first limits v
+pub right_cut_at : {S K : Type 0} (eq : K → K → Bool) (key_of : S → K) (turn : S → S → Type 0) (bytes_of : S → ℕ) (limits : Limits)
+    (first : S) (n : ℕ) (v : Verdict S) → v ≡ Cut n → IsCutAtLimits eq key_of turn bytes_of first limits v
     → ((n ≡ limits.turns) × IsLong turn first n) ⊎ IsCrowded eq key_of turn first limits.states n
+    ⊎ IsHeavy eq key_of turn bytes_of first limits.bytes n
 unfolding IsCutAtLimits
-right_cut_at eq key_of turn limits first n v is h = subst (IsCutAtLimits eq key_of turn first limits) is h
+right_cut_at eq key_of turn bytes_of limits first n v is h = subst (IsCutAtLimits eq key_of turn bytes_of first limits) is h
 
 -- as many events as turns
 pub within : (a : Question) (turns : List Turn) (events : List Event) (n most : ℕ) → HasEvents a turns events → length turns ≡ n → n < most
@@ -155,6 +157,15 @@ keys_of a first path none n keys h = record {
       });
 }
 
+-- what is reached are schedules
+paths_apart : (a : Question) (first : PathState) → IsPath a first → first.turns ≡ [] → (n : ℕ) (paths : List PathState)
+    → AreReachedApart (pointwise nat_eq) (λ (s : PathState). s.key) (GoesOn a) first n paths → ArePathsApart a n paths
+paths_apart a first path none n paths h = record {
+  keys = h.keys;
+  apart = h.apart;
+  each = λ s c. reached_path a first path none n s (h.each s c);
+}
+
 -- a schedule has each number of turns in which something is reached
 long_paths : (a : Question) (first : PathState) → IsPath a first → first.turns ≡ [] → (n : ℕ) → IsLong (GoesOn a) first n → AreLong a n
 unfolding IsLong
@@ -166,19 +177,31 @@ long_paths a first path none n long m few =
 -- a search that is cut is cut at its limits
 pub at_limit : (a : Question) (limits : Limits) (first : PathState) → IsPath a first → first.turns ≡ [] → (n : ℕ)
     → (((n ≡ limits.turns) × IsLong (GoesOn a) first n)
-    ⊎ IsCrowded (pointwise nat_eq) (λ (s : PathState). s.key) (GoesOn a) first limits.states n)
-    → ((n ≡ limits.turns) × AreLong a n) ⊎ IsTooMany a limits.states n
+    ⊎ IsCrowded (pointwise nat_eq) (λ (s : PathState). s.key) (GoesOn a) first limits.states n
+    ⊎ IsHeavy (pointwise nat_eq) (λ (s : PathState). s.key) (GoesOn a) path_bytes first limits.bytes n)
+    → ((n ≡ limits.turns) × AreLong a n) ⊎ IsTooMany a limits.states n ⊎ IsTooHeavy a limits.bytes n
 at_limit a limits first path none n cut = elim cut [
   | inl turns ↦ inl (turns.0, long_paths a first path none n turns.1)
-  | inr crowd ↦ inr (record {
-    before = crowd.before;
-    next = crowd.next;
-    some = crowd.some;
-    others = crowd.others;
-    here = keys_of a first path none crowd.before crowd.some crowd.here;
-    behind = keys_of a first path none n crowd.others crowd.behind;
-    many = crowd.many;
-  })
+  | inr wide ↦ inr (elim wide [
+    | inl crowd ↦ inl (record {
+      before = crowd.before;
+      next = crowd.next;
+      some = crowd.some;
+      others = crowd.others;
+      here = keys_of a first path none crowd.before crowd.some crowd.here;
+      behind = keys_of a first path none n crowd.others crowd.behind;
+      many = crowd.many;
+    })
+    | inr heavy ↦ inr (record {
+      before = heavy.before;
+      next = heavy.next;
+      some = heavy.some;
+      others = heavy.others;
+      here = paths_apart a first path none heavy.before heavy.some heavy.here;
+      behind = paths_apart a first path none n heavy.others heavy.behind;
+      many = heavy.many;
+    })
+  ])
 ]
 
 -- an answer that keeps whatever limits its search was cut at keeps those that it had

@@ -1,9 +1,11 @@
 -- What a table of all endings says.
 use Rattle.std.specs.Cmp.Lexicographic.{pointwise}
 use Rattle.std.specs.List.{IsDistinct}
-use Rattle.std.specs.Prelude.{◌≡◌, ◌+◌, ◌<◌, ◌≤◌, ◌⊎◌, ℕ, List, All, Contains, length, nat_eq, slice_index_or}
+use Rattle.std.specs.Prelude.{◌≡◌, ◌+◌, ◌<◌, ◌≤◌, ◌⊎◌, ◌*◌, ℕ, List, Option, All, Contains, length, min, nat_eq, slice_index_or}
 use Rattle.hp_base.specs.declared.event.Event.{Event}
 use Rattle.hp_watch.specs.Moments.{Moment, events_of}
+use Rattle.hp_layers.specs.Layers as layers
+use Rattle.hp_layers.specs.Layers.{IsOver, bytes_in}
 use Rattle.hp_layers.specs.Named.{AreApart}
 use Rattle.hp_layers.specs.Weighed.{IsAsMany}
 use Rattle.hp_every.specs.declared.turn.Turn.{Turn}
@@ -11,7 +13,7 @@ use Rattle.hp_every.specs.Endings.{EndState, Ended, EndsSo, HasEnding, IsEndStat
 use Rattle.hp_every.specs.Search.{HasTurns, Question}
 use Rattle.hp_layers.specs.declared.counting.RunCounts.{RunCounts}
 use Rattle.hp_layers.specs.declared.limits.Limits.{Limits}
-use Rattle.hp_search.specs.Searching.{AreLong}
+use Rattle.hp_search.specs.Searching.{AreLong, path_bytes}
 use Rattle.hp_search.specs.declared.endings.EndingRow.{EndingRow}
 use Rattle.hp_search.specs.declared.endings.EndingRows.{EndingRows}
 use Rattle.hp_search.specs.declared.endings.EndingRows.TheVariants.{Whole, Cut}
@@ -88,11 +90,32 @@ pub record AreTooMany (a : Question) (limit turns : ℕ) : Type 0 where
   pub behind : AreEndKeysOf a turns others
   pub many : limit < length some + length others
 
--- Each row has fewer events than the limit of turns. A table is cut at that limit, up to which schedules go on, or where there are too many
--- places and answers.
+-- how many bytes a table keeps of a schedule
+abbrev pub end_bytes : EndState → ℕ
+end_bytes s = min (path_bytes s.path + 2 * length s.key + 200) 18446744073709551615
+
+-- these are schedules of so many turns, and no two of them have equal keys
+pub record AreEndsApart (a : Question) (turns : ℕ) (ends : List EndState) : Type 0 where
+  pub keys : List (List ℕ)
+  pub apart : layers.AreKeysOf (pointwise nat_eq) (λ (s : EndState). s.key) keys ends
+  pub each : (s : EndState) → Contains ends s → IsEndState a s × (length s.path.turns ≡ turns)
+
+-- schedules of so many turns, and of one turn fewer, take more bytes than the limit, if there is one
+pub record AreTooHeavy (a : Question) (limit : Option ℕ) (turns : ℕ) : Type 0 where
+  pub before : ℕ
+  pub next : turns ≡ before + 1
+  pub some : List EndState
+  pub others : List EndState
+  pub here : AreEndsApart a before some
+  pub behind : AreEndsApart a turns others
+  pub many : IsOver (bytes_in end_bytes some + bytes_in end_bytes others) limit
+
+-- Each row has fewer events than the limit of turns. A table is cut at that limit, up to which schedules go on, where there are too many
+-- places and answers, or where they take too many bytes.
 unfoldable pub AreWithin : Question → Limits → EndingRows → Type 0
 AreWithin a limits (Whole rows) = All (λ row. length row.events.items < limits.turns) rows.items
 AreWithin a limits (Cut turns) = ((turns ≡ limits.turns) × AreLong a turns) ⊎ AreTooMany a limits.states turns
+    ⊎ AreTooHeavy a limits.bytes turns
 
 -- a table has all endings; or the limits ran out
 unfoldable pub AreAllEndings : Question → EndingRows → Type 0

@@ -1,7 +1,7 @@
 -- A search among all schedules: how it goes, and what it says in the end.
 use Rattle.std.specs.Cmp.Lexicographic.{pointwise}
 use Rattle.std.specs.List.{IsDistinct}
-use Rattle.std.specs.Prelude.{◌≡◌, ◌+◌, ◌<◌, ◌≤◌, ◌⊎◌, ℕ, List, ◌∷◌, [], Contains, Some, true, length, nat_eq}
+use Rattle.std.specs.Prelude.{◌≡◌, ◌+◌, ◌*◌, ◌<◌, ◌≤◌, ◌⊎◌, ℕ, List, ◌∷◌, [], Contains, Option, Some, true, length, min, nat_eq}
 use Rattle.hp_base.specs.Mappings.{IsRoom}
 use Rattle.hp_base.specs.Text.{sizes}
 use Rattle.hp_base.specs.declared.event.Event.{Event}
@@ -14,7 +14,8 @@ use Rattle.hp_watch.specs.Moments.{Moment, events_of}
 use Rattle.hp_explore.specs.Schedule.{Plan}
 use Rattle.hp_hunt.specs.Watching.{AllKnow, Known, known_of}
 use Rattle.hp_hunt.specs.declared.condition.Condition.{Condition}
-use Rattle.hp_layers.specs.Layers.{IsCutAtLimits, IsRight}
+use Rattle.hp_layers.specs.Layers as layers
+use Rattle.hp_layers.specs.Layers.{IsCutAtLimits, IsOver, IsRight, bytes_in}
 use Rattle.hp_layers.specs.declared.limits.Limits.{Limits}
 use Rattle.hp_layers.specs.declared.verdict.Verdict.{Verdict}
 use Rattle.hp_every.specs.declared.turn.Turn.{Turn}
@@ -109,16 +110,37 @@ pub record IsTooMany (a : Question) (limit turns : ℕ) : Type 0 where
   pub behind : AreKeysOf a turns others
   pub many : limit < length some + length others
 
+-- how many bytes a search keeps of a schedule: two of each turn, its key twice, and what holds them
+abbrev pub path_bytes : PathState → ℕ
+path_bytes s = min (2 * length s.key + 2 * length s.turns + 200) 18446744073709551615
+
+-- these are schedules of so many turns, and no two of them have equal keys
+pub record ArePathsApart (a : Question) (turns : ℕ) (paths : List PathState) : Type 0 where
+  pub keys : List (List ℕ)
+  pub apart : layers.AreKeysOf (pointwise nat_eq) (λ (s : PathState). s.key) keys paths
+  pub each : (s : PathState) → Contains paths s → IsPath a s × (length s.turns ≡ turns)
+
+-- schedules of so many turns, and of one turn fewer, take more bytes than the limit, if there is one
+pub record IsTooHeavy (a : Question) (limit : Option ℕ) (turns : ℕ) : Type 0 where
+  pub before : ℕ
+  pub next : turns ≡ before + 1
+  pub some : List PathState
+  pub others : List PathState
+  pub here : ArePathsApart a before some
+  pub behind : ArePathsApart a turns others
+  pub many : IsOver (bytes_in path_bytes some + bytes_in path_bytes others) limit
+
 -- a schedule has each number of turns below that
 abbrev pub AreLong : Question → (turns : ℕ) → Type 0
 AreLong a n = (m : ℕ) → m < n → (turns : List Turn) × HasTurns a turns × (length turns ≡ m)
 
--- A schedule that is found has fewer turns than the limit. A search is cut at the limit of turns, up to which schedules go on, or where there
--- are too many places.
+-- A schedule that is found has fewer turns than the limit. A search is cut at the limit of turns, up to which schedules go on, where there are
+-- too many places, or where they take too many bytes.
 abbrev pub IsWithin : Question → Limits → Reachability → Type 0
 IsWithin a limits Never = Unit {0}
 IsWithin a limits (Met trace) = length trace.events.items < limits.turns
 IsWithin a limits (Cut turns) = ((turns ≡ limits.turns) × AreLong a turns) ⊎ IsTooMany a limits.states turns
+    ⊎ IsTooHeavy a limits.bytes turns
 
 -- a search of the schedules that are asked for, layer by layer from the schedule of no turn on, says this, and was cut at no other limits
 pub record IsSearched (a : Question) (limits : Limits) (verdict : Verdict PathState) : Type 0 where
@@ -126,7 +148,7 @@ pub record IsSearched (a : Question) (limits : Limits) (verdict : Verdict PathSt
   pub path : IsPath a first
   pub none : first.turns ≡ []
   pub right : IsRight (GoesOn a) (λ s. s.met ≡ true) first verdict
-  pub cut : IsCutAtLimits (pointwise nat_eq) (λ s. s.key) (GoesOn a) first limits verdict
+  pub cut : IsCutAtLimits (pointwise nat_eq) (λ s. s.key) (GoesOn a) path_bytes first limits verdict
 
 -- What is said of all schedules: that none meets the conditions; or the events of a shortest that does; or that each that does has
 -- at least so many.

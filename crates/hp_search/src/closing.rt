@@ -8,6 +8,7 @@ ghost use Rattle.hp_every.specs.Endings.{GoesBy, IsEnding, IsEndState, answers_i
 ghost use Rattle.hp_every.specs.Search.{MayGoOn};
 ghost use Rattle.hp_every.specs.declared.turn.Turn.{Turn};
 ghost use Rattle.hp_key.specs.Packed.{packed};
+ghost use Rattle.hp_search.specs.Endings.{end_bytes};
 ghost use Rattle.hp_search.specs.Searching.{IsAt, IsQuery, ended_here, place_of, question_of};
 
 use crate::following::follow;
@@ -35,6 +36,19 @@ impl Model for EndPath {
     ghost Value = { EndState };
 
     ghost view = { λ p. record { path = p.path; key = p.key; ending = p.ending } };
+}
+
+// What holds the lists of a schedule that a table keeps besides.
+const KEPT: u64 = 200;
+
+impl EndPath {
+    /// How many bytes a table keeps of it.
+    pub(crate) fn bytes(&self) -> u64
+        ensures { result ≡ end_bytes self.now }
+    {
+        let keys = (self.key.bytes.len() as u64).saturating_mul(2);
+        self.path.bytes().saturating_add(keys).saturating_add(KEPT)
+    }
 }
 
 /// The calls that ended, as words.

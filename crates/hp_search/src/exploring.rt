@@ -6,7 +6,7 @@ ghost use Rattle.hp_layers.specs.Named.{AreEach};
 ghost use Rattle.hp_every.proofs.Endings.{as_good_ends, ends_alike, ends_by_key, named_ends};
 ghost use Rattle.hp_every.specs.Endings.{AreEndsAlike, GoesBy, GoesOnBy, IsEndState};
 ghost use Rattle.hp_every.specs.Search.{HasTurns};
-ghost use Rattle.hp_search.specs.Endings.{AreAllEndings, AreRowsOf, AreStates, AreWithin, IsRowAt};
+ghost use Rattle.hp_search.specs.Endings.{AreAllEndings, AreRowsOf, AreStates, AreWithin, IsRowAt, end_bytes};
 ghost use Rattle.hp_search.specs.Searching.{IsQuery, question, question_of};
 
 use crate::closing::{EndPath, all_ends_behind, end_path_at};
@@ -60,12 +60,18 @@ impl Turns for EndQuery<'_> {
 
     ghost key_of = { λ q s. s.key };
 
+    ghost bytes_of = { λ q s. end_bytes s };
+
     fn after(&self, alloc: Global, from: &EndPath) -> Result<Vec<EndPath>, AllocError> {
         self.goes_on(alloc, from)
     }
 
     fn key(&self, alloc: Global, from: &EndPath) -> Result<Key, AllocError> {
         from.key.copy(alloc)
+    }
+
+    fn bytes(&self, from: &EndPath) -> u64 {
+        from.bytes()
     }
 
     fn is_met(&self, from: &EndPath) -> bool {

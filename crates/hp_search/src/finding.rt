@@ -4,7 +4,7 @@ ghost use Rattle.std.proofs.Common.{sym};
 ghost use Rattle.std.specs.Cmp.Lexicographic.{bytes_decides};
 ghost use Rattle.hp_every.proofs.Good.{as_good, by_key};
 ghost use Rattle.hp_every.specs.Search.{AreAsGood, GoesOn, HasTurns, IsPath};
-ghost use Rattle.hp_search.specs.Searching.{HasEvents, IsAnswer, IsQuery, IsSearched, IsWithin, question, question_of};
+ghost use Rattle.hp_search.specs.Searching.{HasEvents, IsAnswer, IsQuery, IsSearched, IsWithin, path_bytes, question, question_of};
 
 use crate::following::follow;
 use crate::key::Key;
@@ -36,6 +36,8 @@ impl Turns for Query<'_> {
 
     ghost key_of = { λ query s. s.key };
 
+    ghost bytes_of = { λ query s. path_bytes s };
+
     fn after(&self, alloc: Global, path: &Path) -> Result<Vec<Path>, AllocError> {
         // The checker of borrows asks for a mention of the types that an event may hold.
         let _none: (Option<Event>, Option<Op>) = (None, None);
@@ -47,6 +49,10 @@ impl Turns for Query<'_> {
 
     fn key(&self, alloc: Global, path: &Path) -> Result<Key, AllocError> {
         path.key.copy(alloc)
+    }
+
+    fn bytes(&self, path: &Path) -> u64 {
+        path.bytes()
     }
 
     fn is_met(&self, path: &Path) -> bool {

@@ -8,7 +8,7 @@ ghost use Rattle.hp_watch.specs.Moments.{Moment, last_of};
 ghost use Rattle.hp_layers.specs.Layers.{AreAllAfter};
 ghost use Rattle.hp_every.specs.Search.{AreAsGood, AreBehind, GoesOn, IsPath, MayGoOn, MeetsHere, call_number, calls_words, search_key, search_words, watch_words};
 ghost use Rattle.hp_every.specs.Schedules.{IsFinal};
-ghost use Rattle.hp_search.specs.Searching.{IsAt, IsQuery, question_of, place_of};
+ghost use Rattle.hp_search.specs.Searching.{IsAt, IsQuery, question_of, path_bytes, place_of};
 ghost use Rattle.hp_hunt.specs.declared.condition.Condition.{Condition};
 ghost use Rattle.hp_every.specs.declared.turn.Turn.{Turn};
 ghost use Rattle.hp_base.specs.declared.event.Event.{Event};
@@ -39,6 +39,20 @@ impl Model for Path {
     ghost Value = { PathState };
 
     ghost view = { λ p. record { turns = p.turns.items; key = p.key; met = p.met } };
+}
+
+// What holds the lists of a schedule that a search keeps, and its place in a table of keys.
+const KEPT: u64 = 200;
+
+impl Path {
+    /// How many bytes a search keeps of it.
+    pub(crate) fn bytes(&self) -> u64
+        ensures { result ≡ path_bytes self.now }
+    {
+        let keys = (self.key.bytes.len() as u64).saturating_mul(2);
+        let turns = (self.turns.len() as u64).saturating_mul(2);
+        keys.saturating_add(turns).saturating_add(KEPT)
+    }
 }
 
 /// Which call it is, as a word.

@@ -18,8 +18,8 @@ struct Told {
 }
 
 impl Progress for Told {
-    fn layer(&mut self, turns: u32, states: usize) {
-        let _ = (turns, states);
+    fn layer(&mut self, turns: u32, states: usize, bytes: u64) {
+        let _ = (turns, states, bytes);
         self.layers = self.layers.saturating_add(1);
     }
 }
@@ -55,6 +55,7 @@ fn said(
     let limits = Limits {
         turns: 1000,
         states,
+        bytes: None,
     };
     let mut told = Told { layers: 0 };
     match find_every(rt, alloc, &script, budget, conditions, limits, &mut told)? {

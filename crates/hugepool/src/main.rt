@@ -9,6 +9,7 @@ mod answering;
 mod colouring;
 mod hinting;
 mod input;
+mod memory;
 mod objects;
 mod program;
 mod stop;
@@ -22,6 +23,7 @@ use hp_paint::Painted;
 use hp_program::{LEFT, Noted, has_left, write_error};
 use hp_text::Watched;
 use input::open_input;
+use memory::limit_memory;
 use objects::chosen_output;
 use program::program;
 use std::io;
@@ -35,7 +37,10 @@ fn main(rt: HostRuntime) -> io::Result<ExitCode> {
         Ok(words) => words,
         Err(why) => return Ok(ExitCode::from(end_without(why, &mut faults))),
     };
-    let asked = read_words(rt.alloc(), words.as_slice(), rt.stdin().is_terminal());
+    let mut asked = read_words(rt.alloc(), words.as_slice(), rt.stdin().is_terminal());
+    if let Ok(asked) = &mut asked {
+        limit_memory(&rt, asked);
+    }
     let input = match open_input(&rt, &asked, &mut faults) {
         Ok(input) => input,
         Err(status) => return Ok(ExitCode::from(status)),

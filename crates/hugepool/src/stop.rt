@@ -35,10 +35,10 @@ pub(crate) enum Stop {
     #[error("hugepool: {0}\n")]
     Picture(PictureFault),
     /// The limits ran out: no schedule of fewer events meets the conditions.
-    #[error("hugepool: the limit of --states was reached: no schedule of fewer than {0} events meets all conditions\n")]
+    #[error("hugepool: the limit of --states or --memory was reached: no schedule of fewer than {0} events meets all conditions\n")]
     Cut(u32),
     /// The limits ran out: endings of schedules of as many events may be missing.
-    #[error("hugepool: the limit of --states was reached: not all schedules of {0} and more events were looked at\n")]
+    #[error("hugepool: the limit of --states or --memory was reached: not all schedules of {0} and more events were looked at\n")]
     CutTable(u32),
 }
 

@@ -1,5 +1,6 @@
 -- A shortest schedule that meets the conditions, or why there is none.
-use Rattle.std.proofs.Common.{◌≡◌, ◌≤◌, ◌⊎◌, ◌∙◌, List, ap, arith, length, subst}
+use Rattle.std.proofs.Common.{◌≡◌, ◌≤◌, ◌⊎◌, ◌∙◌, List, ap, arith, length, refl, subst}
+use Rattle.std.specs.Prelude.{None}
 use Rattle.std.proofs.lemmas.Result.{err_from_is_err_and}
 use Rattle.hp_base.specs.Text.{Sizes}
 use Rattle.hp_every.specs.Schedules.{IsShortest, NoScheduleMeets, ScheduleMeets}
@@ -45,9 +46,9 @@ pub returns-clause-err : goal.returns-clause-err
 returns-clause-err c =
     let a = question_of c.args.bounds c.in_ok-script.script c.as_slice.result.now in
     let turns = c.in-Cut.turns in
-    let limits : Limits = record { turns = 1000000; states = c.args.bounds.states } in
+    let limits : Limits = record { turns = 1000000; states = c.args.bounds.states; bytes = None } in
     let none = answer_cut a c.in_ok-every.every turns c.in-Cut.is c.in_ok-every.ensures.answer in
-    let why = within_cut a limits c.in_ok-every.every turns c.in-Cut.is c.in_ok-every.ensures.within in
+    let why = within_cut a limits c.in_ok-every.every turns c.in-Cut.is refl c.in_ok-every.ensures.within in
     let both = subst (λ (cs : List Condition). ((moments : List Moment) → ScheduleMeets a.script a.denials a.kills cs moments → turns ≤ length moments)
     × (((turns ≡ 1000000) × AreLong (record a { conditions = cs }) turns) ⊎ IsTooMany (record a { conditions = cs }) limits.states turns))
     c.as_slice.ensures.value (none, why) in
@@ -62,7 +63,7 @@ returns-clause-err c =
 pub trace_bytes-requires : goal.trace_bytes-requires
 trace_bytes-requires c =
     let a = question_of c.args.bounds c.in_ok-script.script c.as_slice.result.now in
-    let limits : Limits = record { turns = 1000000; states = c.args.bounds.states } in
+    let limits : Limits = record { turns = 1000000; states = c.args.bounds.states; bytes = None } in
     omega (arith, within_met a limits c.in_ok-every.every c.in-Met.trace c.in-Met.is c.in_ok-every.ensures.within)
 
 pub returns-in_err-text-in-Met-clause-err : goal.returns-in_err-text-in-Met-clause-err

@@ -1,12 +1,14 @@
-use Rattle.std.proofs.Common.{take}
+use Rattle.std.proofs.Common.{length, take}
 use Rattle.std.specs.HashSet.{contains}
-use Rattle.hp_layers.specs.Layers.{AreCounted, AreNext, AreValid, KeysStand}
+use Rattle.hp_layers.specs.Layers.{AreBytes, AreCounted, AreNext, AreValid, Fits, KeysStand}
 use Rattle.hp_layers.proofs.alone.next_layer_alone.Given as goal
 
 abbrev pub invariant-loop-place : goal.invariant-loop-place
 invariant-loop-place g l = record {
-  stand : KeysStand g.M.Key.PartialEq.eq (g.M.Turns.key_of l.system) (contains g.M.Key.PartialEq.eq l.seen) l.next.items;
-  next : AreNext (g.M.Turns.turn l.system) (g.M.Turns.alike l.system) (take l.place l.layer) l.next.items;
-  valid : AreValid (g.M.Turns.valid l.system) l.next.items;
-  counted : AreCounted g.M.Key.PartialEq.eq l.seen.keys l.next.items;
+  stand : KeysStand g.M.Key.PartialEq.eq (g.M.Turns.key_of l.system) (contains g.M.Key.PartialEq.eq l.seen) l.next.states.items;
+  next : AreNext (g.M.Turns.turn l.system) (g.M.Turns.alike l.system) (take l.place l.layer) l.next.states.items;
+  valid : AreValid (g.M.Turns.valid l.system) l.next.states.items;
+  counted : AreCounted g.M.Key.PartialEq.eq l.seen.keys l.next.states.items;
+  fits : Fits (length l.next.states.items) l.next.bytes l.room.states l.room.bytes;
+  bytes : AreBytes (g.M.Turns.bytes_of l.system) l.next.states.items l.next.bytes;
 }

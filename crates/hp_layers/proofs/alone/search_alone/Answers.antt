@@ -1,8 +1,9 @@
-use Rattle.std.proofs.Common.{arith, ◌≡◌, ◌∙◌, sym, ◌++◌, ◌∷◌, [], ℕ, suc, ◌+◌, ◌<◌, ◌≤◌, inl, inr, refl, subst, List, length}
+use Rattle.std.proofs.Common.{arith, ◌≡◌, ◌∙◌, sym, ◌++◌, ◌∷◌, ◌⊎◌, [], ℕ, suc, ◌+◌, ◌<◌, ◌≤◌, inl, inr, refl, subst, List, length}
 use Rattle.std.proofs.lemmas.List.{nil_from_length}
-use Rattle.hp_layers.specs.Layers.{AreKeysOf, AreNext, AreValid, IsCutAtLimits, IsLayer, IsLong, IsRight, LacksRoom, MeetsAt, NoneBefore, NoneIsMet}
+use Rattle.hp_layers.specs.Layers.{AreKeysOf, AreNext, AreValid, IsCutAtLimits, IsLayer, IsLong, IsRight, LacksBytes, LacksRoom, MeetsAt, NoneBefore, NoneIsMet}
+use Rattle.hp_layers.proofs.Bytes.{over}
 use Rattle.hp_layers.proofs.Covering.{first_keys}
-use Rattle.hp_layers.proofs.Layering.{crowded, first_layer, layer_misses, layer_valid, long_first, long_next, never, next_is_layer}
+use Rattle.hp_layers.proofs.Layering.{first_layer, layer_misses, layer_valid, long_first, long_next, never, next_is_layer}
 use Rattle.hp_layers.proofs.Layering.{none_before_first, none_before_next, shortest}
 use Rattle.hp_layers.proofs.alone.search_alone.Goals as goal
 
@@ -16,16 +17,17 @@ loop-turns-init g c =
     let key_of = g.M.Turns.key_of c.args.system.now in
     let good = turns.as_good c.args.system.now in (
       subst (λ (l : List _). IsLayer turn alike c.args.first 0 l)
-          (sym (c.in_ok-push.ensures.items ∙ (λ i. c.new-layer.ensures.items i ++ c.args.first ∷ [])))
+          (sym c.in_ok-layer.ensures.states)
           (first_layer turn alike c.args.first (good.itself c.args.first c.requires)),
       none_before_first turn meets c.args.first,
       (
         key_of c.args.first ∷ [],
         subst (λ (l : List _). AreKeysOf g.M.Key.PartialEq.eq key_of (key_of c.args.first ∷ []) l)
-            (sym (c.in_ok-push.ensures.items ∙ (λ i. c.new-layer.ensures.items i ++ c.args.first ∷ [])))
+            (sym c.in_ok-layer.ensures.states)
             (first_keys g.M.Key.PartialEq.eq key_of c.args.first key_eq.laws.symm),
       ),
       long_first turn c.args.first,
+      c.in_ok-layer.ensures.bytes,
     )
 
 pub returns-then-is_empty : goal.returns-then-is_empty
@@ -34,10 +36,10 @@ returns-then-is_empty g c =
     let turn = g.M.Turns.turn c.args.system.now in
     let alike = g.M.Turns.alike c.args.system.now in
     let meets = g.M.Turns.meets c.args.system.now in
-    let none : length c.loop-turns.layer.items ≡ 0 = grind (arith, c.if-is_empty.true, c.if-is_empty.ensures) in
+    let none : length c.loop-turns.layer.states.items ≡ 0 = grind (arith, c.if-is_empty.true, c.if-is_empty.ensures) in
     record {
       right = never turn alike meets c.args.first c.loop-turns.turns
-          (subst (λ (l : List _). IsLayer turn alike c.args.first c.loop-turns.turns l) (nil_from_length c.loop-turns.layer.items none)
+          (subst (λ (l : List _). IsLayer turn alike c.args.first c.loop-turns.turns l) (nil_from_length c.loop-turns.layer.states.items none)
           c.loop-turns.invariant.0)
           c.loop-turns.invariant.1;
       cut = tt;
@@ -49,7 +51,7 @@ returns-in-Some g c =
     let meets = g.M.Turns.meets c.args.system.now in
     record {
       right = shortest (g.M.Turns.turn c.args.system.now) (g.M.Turns.alike c.args.system.now) meets c.args.first
-          c.loop-turns.turns c.loop-turns.layer.items c.in-Some.place c.swap_remove-state.result c.loop-turns.invariant.0
+          c.loop-turns.turns c.loop-turns.layer.states.items c.in-Some.place c.swap_remove-state.result c.loop-turns.invariant.0
           c.loop-turns.invariant.1
           (subst (λ (l : List _). MeetsAt meets l c.in-Some.place) c.deref.ensures.value c.in-Some.ensures.met)
           c.swap_remove-state.ensures.value;
@@ -63,19 +65,22 @@ returns-in_default-2 g c =
     let turns = g.met.M.Turns in
     let turn = g.M.Turns.turn c.args.system.now in
     let meets = g.M.Turns.meets c.args.system.now in
-    let wide : c.args.limits.states ≤ length c.loop-turns.layer.items + c.saturating_sub-room.result =
-    grind (arith, c.saturating_sub-room.ensures, c.len-in-loop-turns.ensures) in
+    let key_of = g.M.Turns.key_of c.args.system.now in
+    let bytes_of = g.M.Turns.bytes_of c.args.system.now in
+    let room = c.room_behind-room.result in
+    let wide : c.args.limits.states ≤ length c.loop-turns.layer.states.items + room.states =
+    grind (arith, c.room_behind-room.ensures.states, c.len-in-loop-turns.ensures) in
     let more = rw c.in_default-2.is at c.in_ok-next.ensures.none in
     record {
       right = none_before_next turn meets c.args.first c.loop-turns.turns c.loop-turns.invariant.1
           (layer_misses (g.M.Turns.valid c.args.system.now) turn (g.M.Turns.alike c.args.system.now) meets c.args.first c.loop-turns.turns
-          c.loop-turns.layer.items (turns.as_good c.args.system.now) c.loop-turns.invariant.0
+          c.loop-turns.layer.states.items (turns.as_good c.args.system.now) c.loop-turns.invariant.0
           (subst (λ (l : List _). NoneIsMet meets l) c.deref.ensures.value (c.in_default.ensures.none refl)));
-      cut = inr (crowded g.M.Key.PartialEq.eq (g.M.Turns.key_of c.args.system.now) turn (g.M.Turns.alike c.args.system.now) c.args.first
-          c.args.limits.states c.saturating_sub-room.result c.loop-turns.turns c.loop-turns.invariant.2.0 c.loop-turns.layer.items
-          c.loop-turns.invariant.2.1 c.loop-turns.invariant.0
-          (subst (λ (l : List _). LacksRoom g.M.Key.PartialEq.eq (g.M.Turns.key_of c.args.system.now) turn l c.saturating_sub-room.result)
-          c.deref-in-loop-turns.ensures.value more) wide);
+      cut = inr (over g.M.Key.PartialEq.eq key_of turn (g.M.Turns.alike c.args.system.now) bytes_of c.args.first c.args.limits
+          room.states room.bytes c.loop-turns.turns c.loop-turns.layer.bytes c.loop-turns.invariant.2.0 c.loop-turns.layer.states.items
+          c.loop-turns.invariant.2.1 c.loop-turns.invariant.0 c.loop-turns.invariant.4
+          (subst (λ (l : List _). LacksRoom g.M.Key.PartialEq.eq key_of turn l room.states
+          ⊎ LacksBytes g.M.Key.PartialEq.eq key_of turn bytes_of l room.bytes) c.deref-in-loop-turns.ensures.value more) wide c.room_behind-room.ensures.bytes);
     }
 
 pub loop-turns-preserved : goal.loop-turns-preserved
@@ -86,19 +91,20 @@ loop-turns-preserved g c =
     let meets = g.M.Turns.meets c.args.system.now in
     let good = turns.as_good c.args.system.now in
     let n = c.loop-turns.turns in
-    let some : 0 < length c.loop-turns.layer.items = grind (arith, c.if-is_empty.false, c.if-is_empty.ensures) in
+    let some : 0 < length c.loop-turns.layer.states.items = grind (arith, c.if-is_empty.false, c.if-is_empty.ensures) in
     let next : suc n ≡ n + 1 = omega arith in (
-      subst (λ (k : ℕ). IsLayer turn alike c.args.first k c.in-Some-2.next.items) next
-          (next_is_layer (g.M.Turns.valid c.args.system.now) turn alike meets c.args.first n c.loop-turns.layer.items
-          c.in-Some-2.next.items good c.loop-turns.invariant.0
-          (subst (λ (l : List _). AreNext turn alike l c.in-Some-2.next.items) c.deref-in-loop-turns.ensures.value
+      subst (λ (k : ℕ). IsLayer turn alike c.args.first k c.in-Some-2.next.states.items) next
+          (next_is_layer (g.M.Turns.valid c.args.system.now) turn alike meets c.args.first n c.loop-turns.layer.states.items
+          c.in-Some-2.next.states.items good c.loop-turns.invariant.0
+          (subst (λ (l : List _). AreNext turn alike l c.in-Some-2.next.states.items) c.deref-in-loop-turns.ensures.value
           (rw c.in-Some-2.is at c.in_ok-next.ensures.next))),
       none_before_next turn meets c.args.first n c.loop-turns.invariant.1
-          (layer_misses (g.M.Turns.valid c.args.system.now) turn alike meets c.args.first n c.loop-turns.layer.items good
+          (layer_misses (g.M.Turns.valid c.args.system.now) turn alike meets c.args.first n c.loop-turns.layer.states.items good
           c.loop-turns.invariant.0
           (subst (λ (l : List _). NoneIsMet meets l) c.deref.ensures.value (c.in_default.ensures.none refl))),
       rw c.in-Some-2.is at c.in_ok-next.ensures.keys,
-      long_next turn alike c.args.first n c.loop-turns.layer.items c.loop-turns.invariant.0 some c.loop-turns.invariant.3,
+      long_next turn alike c.args.first n c.loop-turns.layer.states.items c.loop-turns.invariant.0 some c.loop-turns.invariant.3,
+      rw c.in-Some-2.is at c.in_ok-next.ensures.bytes,
     )
 
 pub returns : goal.returns
@@ -118,4 +124,4 @@ next_layer_alone-requires-clause-layer g c κs live =
     let good = turns.as_good c.args.system.now in
     subst (λ (l : List _). AreValid valid l) (sym c.deref-in-loop-turns.ensures.value)
     (layer_valid valid (g.M.Turns.turn c.args.system.now) (g.M.Turns.alike c.args.system.now) c.args.first c.loop-turns.turns
-    c.loop-turns.layer.items good.stays c.requires c.loop-turns.invariant.0)
+    c.loop-turns.layer.states.items good.stays c.requires c.loop-turns.invariant.0)

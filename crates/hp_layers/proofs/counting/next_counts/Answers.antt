@@ -1,4 +1,4 @@
-use Rattle.std.proofs.Common.{◌≡◌, ◌∙◌, ℕ, ◌+◌, ◌-◌, ◌<◌, ◌≤◌, ◌++◌, ◌∷◌, [], List, length, get_or, sym, ap, subst, take, arith}
+use Rattle.std.proofs.Common.{◌≡◌, ◌∙◌, ℕ, ◌+◌, ◌-◌, ◌<◌, ◌≤◌, ◌++◌, ◌∷◌, [], List, length, get_or, refl, sym, ap, subst, take, arith}
 use Rattle.std.specs.Prelude.{None, map}
 use Rattle.std.specs.HashMap.{get}
 use Rattle.std.specs.Map.{lookup}
@@ -7,7 +7,8 @@ use Rattle.std.proofs.lemmas.List.{get_or_default, length-take-le, take_all, tak
 use Rattle.hp_workers.specs.Claims.{AreOwn}
 use Rattle.hp_layers.specs.Layers.{AreNext, AreValid}
 use Rattle.hp_layers.specs.Named.{AreEach}
-use Rattle.hp_layers.proofs.Covering.{after_one, are_valid, lacks_room, next_of_none, next_on, none_valid, valid_after}
+use Rattle.hp_layers.proofs.Bytes.{fits, lacks, no_bytes, nothing_fits}
+use Rattle.hp_layers.proofs.Covering.{after_one, are_valid, next_of_none, next_on, none_valid, valid_after}
 use Rattle.hp_layers.proofs.Indexing.{have_one_place, indexed_keys, none_indexed}
 use Rattle.hp_layers.proofs.Portions.{at_place, item_at, item_there, part_before, part_own, part_valid, take_item}
 use Rattle.hp_layers.proofs.Spreading.{MoveSo, all_after, goes_on, more_moves, no_moves}
@@ -19,12 +20,14 @@ loop-place-init g c =
     let eq = g.M.Key.PartialEq.eq in
     let none : (q : _) → get eq c.new-places.result q ≡ None = λ q. ap (lookup (eq q)) c.new-places.ensures.empty in
     record {
-      valid = none_valid (g.M.Turns.valid m) c.new.result.items c.new.ensures.items;
-      long = ap (λ (l : List ℕ). length l) c.new-2.ensures.items ∙ sym (ap (λ (l : List _). length l) c.new.ensures.items);
-      indexed = none_indexed eq (λ s k. g.M.Turns.key_of m s ≡ k) (get eq c.new-places.result) c.new.result.items none c.new.ensures.items;
-      next = subst (λ (l : List _). AreNext (g.M.Turns.turn m) (g.M.Turns.alike m) [] l) (sym c.new.ensures.items)
+      valid = none_valid (g.M.Turns.valid m) c.no_counts.result.states.items c.no_counts.ensures.states;
+      long = ap (λ (l : List ℕ). length l) c.no_counts.ensures.ways ∙ sym (ap (λ (l : List _). length l) c.no_counts.ensures.states);
+      indexed = none_indexed eq (λ s k. g.M.Turns.key_of m s ≡ k) (get eq c.new-places.result) c.no_counts.result.states.items none c.no_counts.ensures.states;
+      next = subst (λ (l : List _). AreNext (g.M.Turns.turn m) (g.M.Turns.alike m) [] l) (sym c.no_counts.ensures.states)
           (next_of_none (g.M.Turns.turn m) (g.M.Turns.alike m));
-      moves = no_moves (g.M.Ends.step m) (g.M.Turns.key_of m) (get eq c.new-places.result) c.new-2.result.items c.new-2.ensures.items;
+      moves = no_moves (g.M.Ends.step m) (g.M.Turns.key_of m) (get eq c.new-places.result) c.no_counts.result.ways.items c.no_counts.ensures.ways;
+      fits = nothing_fits c.no_counts.result.states.items 0 c.args.room.states c.args.room.bytes c.no_counts.ensures.states refl;
+      bytes = no_bytes (g.M.Turns.bytes_of m) c.no_counts.result.states.items 0 c.no_counts.ensures.states refl;
       begins = omega arith;
       own = λ more. absurd (omega (arith, more));
     }
@@ -93,20 +96,23 @@ loop-place-preserved g c =
     let two : take (k + 1) ns ≡ take k ns ++ c.index-more.result.now ∷ [] =
     take_more ns k 0 there ∙ ap (λ (x : ℕ). take k ns ++ x ∷ []) (sym read) in
     let so = more_moves (g.M.Ends.step m) (g.M.Turns.key_of m) (get eq c.loop-place.places) (get eq c.add_each.new.places) (take k states)
-    (take k ns) c.loop-place.next.ways.items c.add_each.new.counts.ways.items state c.index-more.result.now c.in_ok-after.after.items
+    (take k ns) c.loop-place.next.counts.ways.items c.add_each.new.next.counts.ways.items state c.index-more.result.now c.in_ok-after.after.items
     (length-take-le k ns (omega (arith, there)) ∙ sym (length-take-le k states (omega (arith, within)))) was.moves added.kept
     each added.each in
     record {
       valid = added.valid;
       long = added.long;
       indexed = added.indexed;
-      next = subst (λ (l : List _). AreNext turn alike l c.add_each.new.counts.states.items) (sym one)
-          (next_on turn alike (take k states) c.loop-place.next.states.items c.in_ok-after.after.items c.add_each.new.counts.states.items
+      next = subst (λ (l : List _). AreNext turn alike l c.add_each.new.next.counts.states.items) (sym one)
+          (next_on turn alike (take k states) c.loop-place.next.counts.states.items c.in_ok-after.after.items c.add_each.new.next.counts.states.items
           state good.onward was.next after added.added);
       moves = subst (λ (l : List ℕ). MoveSo (g.M.Ends.step m) (g.M.Turns.key_of m) (get eq c.add_each.new.places) (take (k + 1) states) l
-          c.add_each.new.counts.ways.items) (sym two)
+          c.add_each.new.next.counts.ways.items) (sym two)
           (subst (λ (l : List _). MoveSo (g.M.Ends.step m) (g.M.Turns.key_of m) (get eq c.add_each.new.places) l
-          (take k ns ++ c.index-more.result.now ∷ []) c.add_each.new.counts.ways.items) (sym one) so);
+          (take k ns ++ c.index-more.result.now ∷ []) c.add_each.new.next.counts.ways.items) (sym one) so);
+      bytes = added.bytes;
+      fits = fits c.exceeds.result c.args.room.states c.args.room.bytes c.len-many.result _ c.add_each.new.next.bytes c.exceeds.ensures
+          c.if-exceeds.false (grind (arith, common_steps, c.len-many.ensures));
       begins = omega (arith, before);
       own = λ more.
           subst (λ (l : List _). AreOwn (λ (at : ℕ) (after : _). (d : _) → AreEach (g.M.Ends.step m) (get_or l (c.part_of-begin.result + at) d)
@@ -119,14 +125,14 @@ returns-clause-keys g c =
     let m = c.args.system.now in
     let eq = g.M.Key.PartialEq.eq in
     let laws = key_eq.laws in
-    let states = c.loop-place.next.states.items in (
+    let states = c.loop-place.next.counts.states.items in (
       map (g.M.Turns.key_of m) states,
       indexed_keys eq (g.M.Turns.key_of m) laws.symm (get eq c.loop-place.places) states
           (have_one_place eq c.loop-place.places.entries laws.congr) c.loop-place.invariant.indexed,
     )
 
-pub returns-then-len-room-clause-none : goal.returns-then-len-room-clause-none
-returns-then-len-room-clause-none g c =
+pub returns-then-exceeds-clause-none : goal.returns-then-exceeds-clause-none
+returns-then-exceeds-clause-none g c =
     let key_eq = g.met.M.Key.Eq g.world.𝓛 g.world.𝓜 g.world.𝓡 ((λ s x. x), (λ x. x), (λ x. x), λ x. x) in
     let turns = g.met.M.Turns g.world.𝓛 g.world.𝓜 g.world.𝓡 ((λ s x. x), (λ x. x), (λ x. x), λ x. x) in
     let ends_so = g.met.M.Ends g.world.𝓛 g.world.𝓜 g.world.𝓡 ((λ s x. x), (λ x. x), (λ x. x), λ x. x) in
@@ -139,7 +145,7 @@ returns-then-len-room-clause-none g c =
     let key_of = g.M.Turns.key_of m in
     let states = c.args.layer.now.states.items in
     let k = c.loop-place.place in
-    let next = c.add_each.new.counts.states.items in
+    let next = c.add_each.new.next.counts.states.items in
     let within : k < length states = grind (arith, common_steps, c.loop-place-test.true, c.len-place-end.ensures) in
     let before = part_before c.loop-place.begin c.part_of-begin.result k c.part_of-begin.ensures c.loop-place.invariant.begins in
     let state = (item_at states k within).0 in
@@ -152,9 +158,10 @@ returns-then-len-room-clause-none g c =
     (ends_so.are_named m) state c.in_ok-after.after.items (good.itself state own) each in
     let keys = indexed_keys eq key_of laws.symm (get eq c.add_each.new.places) next
     (have_one_place eq c.add_each.new.places.entries laws.congr) c.in_ok-add_each.ensures.indexed in
-    lacks_room eq key_of turn states next (map key_of next) c.args.room keys.counted keys.stand
-    (grind (arith, common_steps, c.if-len-room.true, c.len.ensures))
-    (λ t. after_one turn alike states c.loop-place.next.states.items c.in_ok-after.after.items next k state t there c.loop-place.invariant.next
+    lacks eq key_of turn (g.M.Turns.bytes_of m) states next (map key_of next) c.args.room.states c.args.room.bytes c.len-many.result c.add_each.new.next.bytes
+    keys.counted keys.stand c.in_ok-add_each.ensures.bytes (grind (arith, common_steps, c.len-many.ensures))
+    (c.exceeds.ensures.0 c.if-exceeds.true)
+    (λ t. after_one turn alike states c.loop-place.next.counts.states.items c.in_ok-after.after.items next k state t there c.loop-place.invariant.next
     after c.in_ok-add_each.ensures.added)
 
 pub returns-clause-goes : goal.returns-clause-goes
@@ -170,9 +177,9 @@ returns-clause-goes g c =
     let all : length states ≤ k = grind (arith, common_steps, c.loop-place-test.false, c.len-place-end.ensures) in
     let whole : length ns ≤ k = omega (arith, all, c.requires.long) in
     let so = subst (λ (l : List ℕ). MoveSo (g.M.Ends.step m) (g.M.Turns.key_of m) (get eq c.loop-place.places) (take k states) l
-    c.loop-place.next.ways.items) (take_all k ns whole) c.loop-place.invariant.moves in
+    c.loop-place.next.counts.ways.items) (take_all k ns whole) c.loop-place.invariant.moves in
     goes_on eq (g.M.Turns.key_of m) (g.M.Turns.valid m) (g.M.Turns.turn m) (g.M.Turns.alike m) (g.M.Ends.step m)
-    (turns.same_key m) good.stays (ends_so.are_named m) (get eq c.loop-place.places) c.args.layer.now c.loop-place.next
+    (turns.same_key m) good.stays (ends_so.are_named m) (get eq c.loop-place.places) c.args.layer.now c.loop-place.next.counts
     c.requires.valid c.loop-place.invariant.valid c.loop-place.invariant.indexed
-    (subst (λ (l : List _). MoveSo (g.M.Ends.step m) (g.M.Turns.key_of m) (get eq c.loop-place.places) l ns c.loop-place.next.ways.items)
+    (subst (λ (l : List _). MoveSo (g.M.Ends.step m) (g.M.Turns.key_of m) (get eq c.loop-place.places) l ns c.loop-place.next.counts.ways.items)
     (take_all k states all) so)

@@ -2,7 +2,8 @@ use Rattle.std.proofs.Common.{arith, ◌<◌, ◌+◌, sym, ap, [], ℕ, subst, 
 use Rattle.std.specs.List.{list_any}
 use Rattle.std.specs.HashSet.{contains}
 use Rattle.hp_layers.specs.Layers.{AreAllAfter, AreNext}
-use Rattle.hp_layers.proofs.Covering.{after_one, are_valid, lacks_room, next_of_none, next_on, none_counted, none_stand, none_valid}
+use Rattle.hp_layers.proofs.Bytes.{fits, lacks, no_bytes, nothing_fits}
+use Rattle.hp_layers.proofs.Covering.{after_one, are_valid, next_of_none, next_on, none_counted, none_stand, none_valid}
 use Rattle.hp_layers.proofs.Covering.{valid_after}
 use Rattle.hp_layers.proofs.Portions.{at_place, item_at, item_there, part_before, part_own, part_valid, take_item}
 use Rattle.hp_layers.proofs.layer.next_layer.Goals as goal
@@ -13,11 +14,15 @@ loop-place-init g c =
     let alike = g.M.Turns.alike c.args.system.now in
     let eq = g.M.Key.PartialEq.eq in
     record {
-      stand = none_stand eq (g.M.Turns.key_of c.args.system.now) (contains eq c.new-seen.result) c.new-next.result.items
+      stand = none_stand eq (g.M.Turns.key_of c.args.system.now) (contains eq c.new-seen.result) c.no_layer-next.result.states.items
           (λ k. ap (list_any (eq k)) c.new-seen.ensures.empty);
-      next = subst (λ (l : List _). AreNext turn alike [] l) (sym c.new-next.ensures.items) (next_of_none turn alike);
-      valid = none_valid (g.M.Turns.valid c.args.system.now) c.new-next.result.items c.new-next.ensures.items;
-      counted = none_counted eq c.new-seen.result.keys c.new-next.result.items c.new-seen.ensures.empty c.new-next.ensures.items;
+      next = subst (λ (l : List _). AreNext turn alike [] l) (sym c.no_layer-next.ensures.states) (next_of_none turn alike);
+      valid = none_valid (g.M.Turns.valid c.args.system.now) c.no_layer-next.result.states.items c.no_layer-next.ensures.states;
+      fits = nothing_fits c.no_layer-next.result.states.items c.no_layer-next.result.bytes c.args.room.states c.args.room.bytes
+          c.no_layer-next.ensures.states c.no_layer-next.ensures.bytes;
+      bytes = no_bytes (g.M.Turns.bytes_of c.args.system.now) c.no_layer-next.result.states.items c.no_layer-next.result.bytes
+          c.no_layer-next.ensures.states c.no_layer-next.ensures.bytes;
+      counted = none_counted eq c.new-seen.result.keys c.no_layer-next.result.states.items c.new-seen.ensures.empty c.no_layer-next.ensures.states;
       begins = omega arith;
       own = λ more. absurd (omega (arith, more));
     }
@@ -59,7 +64,7 @@ loop-place-preserved g c =
     let layer = c.args.layer.now in
     let k = c.loop-place.place in
     let after = c.in_ok-after.after.items in
-    let new = c.add_all.new.next.items in
+    let new = c.add_all.new.next.states.items in
     let was = c.loop-place.invariant in
     let there : k < length layer = c.loop-place-test.true in
     let before = part_before c.loop-place.begin c.part_of-begin.result k c.part_of-begin.ensures was.begins in
@@ -68,15 +73,18 @@ loop-place-preserved g c =
     record {
       stand = c.in_ok-add_all.ensures.stand;
       next = subst (λ (l : List _). AreNext turn alike l new) (sym (take_item layer k there))
-          (next_on turn alike (take k layer) c.loop-place.next.items after new s.0 good.onward was.next right c.in_ok-add_all.ensures.added);
+          (next_on turn alike (take k layer) c.loop-place.next.states.items after new s.0 good.onward was.next right c.in_ok-add_all.ensures.added);
       valid = c.in_ok-add_all.ensures.next;
       counted = c.in_ok-add_all.ensures.counted;
+      bytes = c.in_ok-add_all.ensures.bytes;
+      fits = fits c.exceeds.result c.args.room.states c.args.room.bytes c.len.result _ c.add_all.new.next.bytes c.exceeds.ensures
+          c.if-exceeds.false (grind (arith, c.len.ensures));
       begins = omega (arith, before);
       own = λ more. c.in_ok-after.ensures.own;
     }
 
-pub returns-then-len-room-clause-none : goal.returns-then-len-room-clause-none
-returns-then-len-room-clause-none g c =
+pub returns-then-exceeds-clause-none : goal.returns-then-exceeds-clause-none
+returns-then-exceeds-clause-none g c =
     let turn = g.M.Turns.turn c.args.system.now in
     let alike = g.M.Turns.alike c.args.system.now in
     let layer = c.args.layer.now in
@@ -86,7 +94,9 @@ returns-then-len-room-clause-none g c =
     let before = part_before c.loop-place.begin c.part_of-begin.result k c.part_of-begin.ensures c.loop-place.invariant.begins in
     let s = item_at layer k there in
     let right = at_place (λ (x : _). AreAllAfter turn alike x after) layer c.part_of-begin.result k there before c.in_ok-after.ensures.right in
-    lacks_room g.M.Key.PartialEq.eq (g.M.Turns.key_of c.args.system.now) turn layer c.add_all.new.next.items c.add_all.new.seen.keys
-    c.args.room c.in_ok-add_all.ensures.counted c.in_ok-add_all.ensures.stand (grind (arith, c.if-len-room.true, c.len.ensures))
-    (λ t. after_one turn alike layer c.loop-place.next.items after c.add_all.new.next.items k s.0 t (item_there layer k there)
+    lacks g.M.Key.PartialEq.eq (g.M.Turns.key_of c.args.system.now) turn (g.M.Turns.bytes_of c.args.system.now) layer
+    c.add_all.new.next.states.items c.add_all.new.seen.keys c.args.room.states c.args.room.bytes c.len.result c.add_all.new.next.bytes
+    c.in_ok-add_all.ensures.counted c.in_ok-add_all.ensures.stand c.in_ok-add_all.ensures.bytes (grind (arith, c.len.ensures))
+    (c.exceeds.ensures.0 c.if-exceeds.true)
+    (λ t. after_one turn alike layer c.loop-place.next.states.items after c.add_all.new.next.states.items k s.0 t (item_there layer k there)
     c.loop-place.invariant.next right c.in_ok-add_all.ensures.added)

@@ -3,7 +3,7 @@ use Rattle.std.proofs.KnownBytes.{Keeps-refl}
 use Rattle.hp_every.specs.Schedules.{IsShortest, NoScheduleMeets, ScheduleMeets}
 use Rattle.hp_every.specs.Search.{Question}
 use Rattle.hp_layers.specs.declared.limits.Limits.{Limits}
-use Rattle.hp_search.specs.Searching.{AreLong, IsTooMany}
+use Rattle.hp_search.specs.Searching.{AreLong, IsTooHeavy, IsTooMany}
 use Rattle.std.specs.Prelude.{◌⊎◌}
 use Rattle.hp_hunt.specs.declared.condition.Condition.{Condition}
 use Rattle.hp_script_commands.proofs.Searched.{answer_cut, answer_met, answer_never, finds_every, finds_every_short, within_cut}
@@ -65,14 +65,15 @@ returns-clause-ok g c =
     } in
     let turns = c.in-Cut.turns in
     let every = c.in_ok-trace.field-0 in
-    let limits : Limits = record { turns = 1000000; states = c.args.search.now.states } in
+    let limits : Limits = record { turns = 1000000; states = c.args.search.now.states; bytes = c.args.search.now.memory } in
     let none = answer_cut a every turns c.in-Cut.is c.in_ok-trace.ensures.answer in
     let at = within_cut a limits every turns c.in-Cut.is c.in_ok-trace.ensures.within in (
       record {
         script = a.script;
         reads = c.in_ok-script.ensures.ok;
         none = subst (λ (cs : List Condition). ((moments : List Moment) → ScheduleMeets a.script a.denials a.kills cs moments → turns ≤ length moments)
-            × (((turns ≡ 1000000) × AreLong (record a { conditions = cs }) turns) ⊎ IsTooMany (record a { conditions = cs }) limits.states turns))
+            × (((turns ≡ 1000000) × AreLong (record a { conditions = cs }) turns) ⊎ IsTooMany (record a { conditions = cs }) limits.states turns
+            ⊎ IsTooHeavy (record a { conditions = cs }) limits.bytes turns))
             c.as_slice-conditions.ensures.value (none, at);
       },
       Keeps-refl _,

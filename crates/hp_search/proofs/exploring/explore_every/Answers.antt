@@ -40,7 +40,7 @@ returns-in-Whole-clause-within g c =
     let ending : EndState → _ = λ s. s.ending in
     rows_few a first c.in_ok-first.ensures.state empty c.in-Whole.counts c.args.limits.turns
     (whole_shortest (GoesOnBy a) ending first table c.in-Whole.counts c.in-Whole.is c.in_ok-counts.ensures.right)
-    (whole_within _ _ (GoesOnBy a) first c.args.limits table c.in-Whole.counts c.in-Whole.is c.in_ok-counts.ensures.cut)
+    (whole_within _ _ (GoesOnBy a) _ first c.args.limits table c.in-Whole.counts c.in-Whole.is c.in_ok-counts.ensures.cut)
     c.in_ok-rows_of-in-Whole.field-0.items c.in_ok-rows_of-in-Whole.ensures
 
 pub returns-clause-endings : goal.returns-clause-endings
@@ -54,4 +54,4 @@ returns-clause-within g c =
     let first = c.in_ok-first.first in
     let empty = c.in_ok-first.ensures.turns in
     cut_at a c.args.limits first c.in_ok-first.ensures.state empty c.in-Cut.turns
-    (cut_within _ _ (GoesOnBy a) first c.args.limits c.in_ok-counts.field-0 _ c.in-Cut.turns c.in-Cut.is c.in_ok-counts.ensures.cut)
+    (cut_within _ _ (GoesOnBy a) _ first c.args.limits c.in_ok-counts.field-0 _ c.in-Cut.turns c.in-Cut.is c.in_ok-counts.ensures.cut)

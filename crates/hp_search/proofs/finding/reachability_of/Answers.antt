@@ -35,7 +35,7 @@ returns-in-Cut-clause-within c = λ limits searched.
     let first = was.first in
     let none = was.none in
     at_limit a limits first was.path none c.in-Cut.turns
-    (right_cut_at _ _ (GoesOn a) limits first c.in-Cut.turns c.args.verdict c.in-Cut.is was.cut)
+    (right_cut_at _ _ (GoesOn a) _ limits first c.in-Cut.turns c.args.verdict c.in-Cut.is was.cut)
 
 pub events_of-requires-clause-may : goal.events_of-requires-clause-may
 events_of-requires-clause-may c =
@@ -76,4 +76,4 @@ returns-in_ok-events-in-Met-clause-within c = λ limits searched.
     let events = subst (λ (xs : List Turn). HasEvents a xs c.in_ok-events-in-Met.events.items) here c.in_ok-events-in-Met.ensures in
     let long = (reached_path a first was.path none c.in-Met.turns s shortest.reached).1 in
     within a s.turns c.in_ok-events-in-Met.events.items c.in-Met.turns limits.turns events long
-    (right_within _ _ _ limits first s c.in-Met.turns c.args.verdict c.in-Met.is was.cut)
+    (right_within _ _ _ _ limits first s c.in-Met.turns c.args.verdict c.in-Met.is was.cut)
