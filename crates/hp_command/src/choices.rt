@@ -293,7 +293,7 @@ pub(crate) const MEMORY: Choice = Choice {
     name: "memory",
     form: "M",
     takes: Takes::Number(None, 1, 4_294_967_295),
-    help: "With --every: maximum memory for states, in MiB; default: half of what is free",
+    help: "With --every: maximum memory for states, in MiB [default: half of what is free]",
     conflicts: &[],
     needs: &["every"],
 };

@@ -65,8 +65,8 @@ pub(crate) const EXPLORE: Row = Row {
     told: SCRIPTS,
     operand: Operand::File,
     choices: &[
-        SEED, RUNS, DENY, KILL, AUDIT, SUMMARY, ALL, DENIALS, KILLS, STATES, MEMORY, OBJECTS, LOOSE_FORM,
-        COLOR,
+        SEED, RUNS, DENY, KILL, AUDIT, SUMMARY, ALL, DENIALS, KILLS, STATES, MEMORY, OBJECTS,
+        LOOSE_FORM, COLOR,
     ],
 };
 

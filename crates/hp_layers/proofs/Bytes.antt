@@ -27,19 +27,19 @@ no_bytes bytes_of states bytes e is = record {
 pub own_bytes : {S : Type 0} (bytes_of : S → ℕ) (s : S) (states : List S) (bytes : ℕ) → states ≡ s ∷ [] → bytes ≡ bytes_of s
     → AreBytes bytes_of states bytes
 own_bytes bytes_of s states bytes e is = (
-  let all : bytes_in bytes_of states ≡ bytes_of s + 0 = ap (λ l. bytes_in bytes_of l) e in
-  record { at_most = omega (arith, is, all); exact = λ few. omega (arith, is, all) })
+    let all : bytes_in bytes_of states ≡ bytes_of s + 0 = ap (λ l. bytes_in bytes_of l) e in
+    record { at_most = omega (arith, is, all); exact = λ few. omega (arith, is, all) })
 
 -- one more is added
 pub bytes_on : {S : Type 0} (bytes_of : S → ℕ) (old new : List S) (s : S) (bytes more : ℕ) → AreBytes bytes_of old bytes → new ≡ old ++ s ∷ []
     → more ≡ min (bytes + bytes_of s) 18446744073709551615 → AreBytes bytes_of new more
 bytes_on bytes_of old new s bytes more was e is = (
-  let all : bytes_in bytes_of new ≡ bytes_in bytes_of old + bytes_of s = ap (λ l. bytes_in bytes_of l) e ∙ bytes_push bytes_of old s in
-  let at_most = was.at_most in
-  record {
-    at_most = omega (arith, is, all, at_most);
-    exact = λ few. (let exact = was.exact (omega (arith, is, few)) in omega (arith, is, all, exact, few));
-  })
+    let all : bytes_in bytes_of new ≡ bytes_in bytes_of old + bytes_of s = ap (λ l. bytes_in bytes_of l) e ∙ bytes_push bytes_of old s in
+    let at_most = was.at_most in
+    record {
+      at_most = omega (arith, is, all, at_most);
+      exact = λ few. (let exact = was.exact (omega (arith, is, few)) in omega (arith, is, all, exact, few));
+    })
 
 -- one more is added, or none
 pub bytes_with_some : {S : Type 0} (bytes_of : S → ℕ) (old new : List S) (s : S) (bytes more : ℕ) → AreBytes bytes_of old bytes → AddsSome old s new
@@ -49,7 +49,7 @@ bytes_with_some {S} bytes_of old new s bytes more was grows same one = elim grow
   | inl e ↦ subst (λ (l : List S). AreBytes bytes_of l more) (sym e)
       (subst (λ (n : ℕ). AreBytes bytes_of old n) (sym (same (ap (λ l. length l) (sym e)))) was)
   | inr e ↦ bytes_on bytes_of old new s bytes more was e (one (λ k. (
-    let l : length new ≡ length old + 1 = ap (λ l. length l) e ∙ length_push old s in omega (arith, k, l))))
+      let l : length new ≡ length old + 1 = ap (λ l. length l) e ∙ length_push old s in omega (arith, k, l))))
 ]
 
 -- what comes after states and is more than there is room for
@@ -87,8 +87,8 @@ fits exceeds room space n many bytes says less long = (
 pub nothing_fits : {S : Type 0} (states : List S) (bytes room : ℕ) (space : Option ℕ) → states ≡ [] → bytes ≡ 0
     → Fits (length states) bytes room space
 nothing_fits states bytes room space e is = (
-  let none : length states ≡ 0 = ap (λ l. length l) e in
-  (omega (arith, none), λ most at. omega (arith, is)))
+    let none : length states ≡ 0 = ap (λ l. length l) e in
+    (omega (arith, none), λ most at. omega (arith, is)))
 
 -- the limit of which so much is left
 was_limit : (limit : Option ℕ) (bytes left : ℕ) → option_map (λ most. most - bytes) limit ≡ Some left

@@ -71,7 +71,11 @@ fn bytes_with(bytes: u64, more: u64, before: usize, now: usize) -> u64
     ensures same { before ≡ now → result ≡ bytes }
     ensures more { ¬ (before ≡ now) → result ≡ min (bytes + more) 18446744073709551615 }
 {
-    if now == before { bytes } else { bytes.saturating_add(more) }
+    if now == before {
+        bytes
+    } else {
+        bytes.saturating_add(more)
+    }
 }
 
 /// Adds each of the states behind one, in so many ways.

@@ -4,6 +4,7 @@ use std::fs;
 
 /// What Linux says of memory, in lines of a name, a colon and a number of KiB.
 const MEMORY: &str = "/proc/meminfo";
+
 const FREE: &str = "MemAvailable:";
 
 // The limit of a search among all schedules, if that is what is asked for.
