@@ -20,11 +20,11 @@ from __future__ import annotations
 import argparse
 import os
 import re
-import resource
 import shutil
 import subprocess
 import sys
 import tempfile
+import time
 from datetime import datetime, timezone
 from itertools import product
 from pathlib import Path
@@ -45,10 +45,6 @@ TOLD = re.compile(r"^rt: must-fail (\w+)/([\w.-]+)\.edit: (.*)$", re.M)
 REFUSED, BY_A_NAME = "refused, as it must be", "only because a proof file names"
 
 
-class BadEdit(Exception):
-    """Why an edit cannot be tried."""
-
-
 class Mutant(NamedTuple):
     """A mutant's file, its replacements (path, old text, new text) in their order, and the compiler's error that it must cause, if any."""
 
@@ -64,12 +60,9 @@ class Mutant(NamedTuple):
         """The files that it changes, as it leaves them. Each old text stands once in its file, as those before it have left that."""
         after = {}
         for path, old, new in self.pairs:
-            try:
-                text = after[path] if path in after else (self.crate / path).read_text(encoding="utf-8")
-            except OSError as error:
-                raise BadEdit(f"{path}: {error.strerror}") from None
+            text = after[path] if path in after else (self.crate / path).read_text(encoding="utf-8")
             if text.count(old) != 1:
-                raise BadEdit(f"an old text stands {text.count(old)} times in {path}, and not once: {old.strip()[:80]}")
+                raise ValueError(f"an old text stands {text.count(old)} times in {path}, and not once: {old.strip()[:80]}")
             after[path] = text.replace(old, new)
         return after
 
@@ -91,11 +84,11 @@ def read(file: Path) -> Mutant:
             pairs.append((path, old, text.removeprefix(" ")))
             old = None
         elif line.strip():
-            raise BadEdit(f"a line stands where it can't, or names no file below {', '.join(PARTS)}: {line[:60]}")
+            raise ValueError(f"a line stands where it can't, or names no file below {', '.join(PARTS)}: {line[:60]}")
     if old is not None or not pairs:
-        raise BadEdit("it lacks a line 'old:' or 'new:'")
+        raise ValueError("it lacks a line 'old:' or 'new:'")
     if bool(error) != (file.parent.name == NOT_COMPILED):
-        raise BadEdit(f"a line 'error: CODE' stands in the edits of {NOT_COMPILED}/, and only there")
+        raise ValueError(f"a line 'error: CODE' stands in the edits of {NOT_COMPILED}/, and only there")
     return Mutant(file, tuple(pairs), error)
 
 
@@ -105,11 +98,11 @@ def mutants_of(crate: Path) -> tuple[list[Mutant], dict[str, str]]:
     for file in sorted(it for folder in FOLDERS for it in (crate / folder).glob("*") if it.suffix != ".md"):
         try:
             if file.suffix != ".edit" or file.stem in found:
-                raise BadEdit("its name ends neither in .edit nor, if it is only to be read, in .md, or another edit has it")
+                raise ValueError("its name ends neither in .edit nor, if it is only to be read, in .md, or another edit has it")
             mutant = read(file)
             mutant.texts()
             found[file.stem] = mutant
-        except (BadEdit, UnicodeDecodeError) as error:
+        except (OSError, ValueError) as error:
             bad[file.stem] = f"BAD EDIT: {error}"
     return [*found.values()], bad
 
@@ -223,12 +216,6 @@ def note_tried(names: Iterable[str], began: datetime, is_all: bool) -> None:
     TRIED.write_text("".join(f"{line}\n" for line in lines), encoding="utf-8")
 
 
-def seconds() -> float:
-    """The processor time of the commands that ended."""
-    used = resource.getrusage(resource.RUSAGE_CHILDREN)
-    return used.ru_utime + used.ru_stime
-
-
 def try_all(picked: list[str], is_all: bool) -> int:
     """Tries the mutants of these crates, and returns the status."""
     refused, faults, began = 0, [], datetime.now(timezone.utc)
@@ -238,10 +225,10 @@ def try_all(picked: list[str], is_all: bool) -> int:
     with tempfile.TemporaryDirectory(prefix="mutants-") as room:
         copy_crates(picked, Path(room))
         for name in picked:
-            before = seconds()
+            begun = time.monotonic()
             number, wrong = try_crate(name, Path(room))
             lines = [f"  {name}/{it}: {why}" for it, why in wrong.items()]
-            told = f"{name}: {number - len(wrong)} of {number} mutants refused, in {seconds() - before:.0f} s of processor time"
+            told = f"{name}: {number - len(wrong)} of {number} mutants refused, in {time.monotonic() - begun:.0f} s"
             print("\n".join([told, *lines]), flush=True)
             refused, faults = refused + number - len(wrong), faults + lines
             note_tried([] if wrong or is_all else [name], began, False)
