@@ -72,6 +72,13 @@ ABOVE, BEYOND = "store 3 6", "wait 2 = beyond"
 # committed what the map answered. The reservations of another file, which are counted meanwhile, keep the count above zero
 WIDER_POOL, KEPT = "pool 16 2 8 2 16", "begin 1 map 1 0 3"
 RECOVERED = {"store 1 5": ("frame", "page"), "store 3 5": ("frame", "quota", "commit", "page")}
+# behind the wait for a call that can't end before the one that is held
+BLOCKED = " blocked"
+# calls that hold the file's lock from their begin to their end, those that visit each index of their range, and those that touch one
+LOCKED, VISITING, TOUCHING = ("alloc", "map", "punch", "trunc"), ("alloc",), ("load", "store")
+# where a removal that is held has the slot of an index; the indices that have a page, of which it visits no other; and those that are
+# reserved, at which no quota is asked
+SLOTTED, PAGES, RESERVED = ("removal", "deletion"), {"placed": (1,), "allocated": (1, 2, 3)}, {"reserved": (0, 1, 2), "placed": (0, 1, 2)}
 # what is made in a memory cgroup that may have nothing, of a file without a page: what a page is placed in can't be had then
 POOR = ("store 1 5", "store 3 5", "load 2", "alloc 0 1 1", "alloc 0 0 3", "allock 0 3 1")
 EMPTY = {
@@ -108,10 +115,10 @@ def held() -> Iterator[Script]:
         others += (TRUNCATIONS[kind_of(first)],) if setting in CUTTABLE else ()
         others += (PUNCH,) if setting in CUTTABLE and kind_of(first) != "store" else ()
         for at, other in enumerate(others, 1):
-            yield script(f"held.{place.name}.{setting}.{number}.{at}", setting, beside(place, first, other))
+            yield script(f"held.{place.name}.{setting}.{number}.{at}", setting, beside(place, setting, first, other))
     for place, setting, (at, other) in product(PLACES, (*CUTTABLE, "allocated"), enumerate(UNCUT, 1)):
         if place.name in CUTTING:
-            yield script(f"held.{place.name}.{setting}.cut.{at}", setting, beside(place, CUT, other))
+            yield script(f"held.{place.name}.{setting}.cut.{at}", setting, beside(place, setting, CUT, other))
     for place, setting in product(PLACES, (*CUTTABLE, "allocated")):
         if place.name in CUTTING:
             yield script(f"held.{place.name}.{setting}.above", setting, (hold(place, CUT), f"start 2 {ABOVE}", "wait 2", "wait 1"))
@@ -125,11 +132,38 @@ def hold(place: Place, call: str) -> str:
     return f"hold {'|'.join(place.functions)} 1 {call}"
 
 
-def beside(place: Place, first: str, other: str) -> tuple[str, ...]:
+def beside(place: Place, setting: str, first: str, other: str) -> tuple[str, ...]:
     """A call that is held, and another one meanwhile; behind them each page is touched, of which some were promised."""
     # (where a truncation may be the last of both, the pages are promised anew)
     again = ("begin 1 map 0 0 5",) if "trunc" in first + other else ()
-    return (hold(place, first), f"start 2 {other}", "wait 2", "wait 1", *again, "begin 1 load 1", "begin 1 load 2")
+    blocked = BLOCKED if has_to_wait(place, setting, first, other) else ""
+    return (hold(place, first), f"start 2 {other}", f"wait 2{blocked}", "wait 1", *again, "begin 1 load 1", "begin 1 load 2")
+
+
+def has_to_wait(place: Place, setting: str, first: str, other: str) -> bool:
+    """Whether a call can't end before the one that is held: both lock the file, or it comes to the index whose slot that one has."""
+    if kind_of(first) in LOCKED and kind_of(other) in LOCKED:
+        return True
+    index = slot_of(place, setting, first)
+    return index in indices_of(other) if index is not None and kind_of(other) in (*VISITING, *TOUCHING) else False
+
+
+def slot_of(place: Place, setting: str, call: str) -> int | None:
+    """The index whose slot a call has where it is held, if it has one: the first at which it comes there."""
+    pages = PAGES.get(setting, ())
+    if kind_of(call) == "punch":
+        return next((it for it in indices_of(call) if it in pages), None) if place.name in SLOTTED else None
+    passed = (*pages, *(RESERVED.get(setting, ()) if place.name == "quota" else ()))
+    return next((it for it in indices_of(call) if it not in passed), None) if kind_of(call) in (*VISITING, *TOUCHING) else None
+
+
+def indices_of(call: str) -> range:
+    """The indices of a call's file that it is about; both tasks map the file from its begin on."""
+    kind, *numbers = call.split()
+    if kind in TOUCHING:
+        return range(int(numbers[0]), int(numbers[0]) + 1)
+    first, count = int(numbers[1]), int(numbers[2]) if kind != "trunc" else 0
+    return range(first, first + count)
 
 
 def denied() -> Iterator[Script]:
@@ -163,7 +197,7 @@ CANNOT = ("started", "refused nodenial")
 # the answer of a wait for which a hold didn't last
 RAN_OUT = " = ranout"
 # what no call may be answered where the pool is ample, unless it is denied memory
-ODD = re.compile(r"(?!deny )[^=]* = (?:noframe|errno|segv|beyond|bus)|.*DISAGREE")
+ODD = re.compile(r"(?!deny )[^=]* = (?:noframe|errno|segv|beyond|bus|unblocked)|.*DISAGREE")
 
 
 def has_force(script: Script) -> bool:

@@ -133,6 +133,7 @@ def faults_of_minimizing() -> Iterator[tuple[str, object]]:
         yield f"{what}: its way", found.way == "lost" or found
     yield "its tries", (found.seen, found.tries) in ((2, 8), (3, 8)) or found
     for what, ask in (("a known loss", lambda: smallest(HELD, True)), ("a race", lambda: smallest((AMPLE, ["race 1 9 4 ms"]))),
+                      ("a call that has to wait", lambda: smallest((AMPLE, ["hold f 1 punch 0 0 1", "start 2 trunc 0 0", "wait 2 blocked", "wait 1"]))),
                       ("a program in C", lambda: in_c.program(found))):
         try:
             yield what, f"no problem, but {ask()}"

@@ -36,6 +36,7 @@ FINE = (
 ODD = (
     (2, "wait 2 = noframe", "wait 2 = noframe"),
     (2, "wait 2 = errno EEXIST", "wait 2 = errno EEXIST"),
+    (2, "wait 2 blocked = unblocked", "wait 2 blocked = unblocked"),
     (3, "wait 1 = done | 14 0 | 5 2 | 1 1 | used 2 DISAGREE", "wait 1 = done"),
     (3, "wait 1 = done | 14 15 | 5 2 | 1 1 | used 2", "found:    14 free, 15 reserved"),
     (4, "begin 1 trunc 0 0 = done | 16 0 | 0 0 | 0 0 | used 1", "1 are used of the quota"),
@@ -49,6 +50,24 @@ FIRST_TRY = (*FINE[:2], "wait 2 = ranout", *FINE[3:])
 END = "end total 16 free 16 resv 0 surp 0"
 KERNEL = "# 6.1.0-56-cloud-amd64 #1 SMP Debian 6.1.192-2 (2026-11-16)"
 HELD = Script("h", HEADER, [line.partition(" = ")[0] for line in FINE])
+# where a call is held, what was there before, that call, another one, and whether that has to wait
+MEETINGS = (
+    ("removal", "placed", "punch 0 1 1", "trunc 0 0", True),
+    ("change", "reserved", "map 0 0 4", "punch 0 1 1", True),
+    ("frame", "bare", "store 1 5", "map 0 0 5", False),
+    ("frame", "bare", "store 1 5", "store 1 6", True),
+    ("frame", "bare", "store 3 5", "store 1 6", False),
+    ("page", "bare", "store 3 5", "alloc 0 1 3", True),
+    ("page", "bare", "store 3 5", "punch 0 1 1", False),
+    ("page", "placed", "alloc 0 1 3", "store 1 6", False),
+    ("page", "placed", "alloc 0 1 3", "store 2 6", True),
+    ("quota", "reserved", "alloc 0 1 3", "store 1 6", False),
+    ("quota", "reserved", "alloc 0 1 3", "store 3 6", True),
+    ("deletion", "placed", "punch 0 0 5", "store 1 6", True),
+    ("deletion", "placed", "punch 0 0 5", "store 2 6", False),
+    ("freeing", "placed", "punch 0 0 5", "store 1 6", False),
+    ("deletion", "placed", "trunc 0 2", "store 1 6", False),
+)
 SIGNALS = (signal.SIGTERM, signal.SIGHUP, signal.SIGINT, signal.SIGKILL)
 LEAK = ("# 7.3-cloud #1 SMP Debian 7.3~rc7-1 x", "script a", "pool 1 1 4 2 4", "begin 1 mapn 0 0 2 = mapped 0 | 1 0 | 2 0 | 0 0 | used 0",
         "begin 2 store 0 1 = segv | 1 0 | 2 0 | 0 0 | used 0", "begin 1 exit = done | 1 0 | 2 0 | 0 0 | used 0",
@@ -100,6 +119,13 @@ def faults_of_scripts() -> Iterator[tuple[str, object]]:
         yield "a page below the size isn't", not takes_a_touched_page_off(Script("a", HEADER, [cut[0].replace("store 2", "store 1"), *cut[1:]]))
         words = [room / "record", room / suites.HELD]
         yield "held only with --race", "which --race allows" in subprocess.run(words, capture_output=True, text=True, check=False).stderr
+
+
+def faults_of_meetings() -> Iterator[tuple[str, object]]:
+    """Which calls have to wait for one that is held."""
+    places = {it.name: it for it in forced.PLACES}
+    for name, setting, first, other, expected in MEETINGS:
+        yield f"{name}, {setting}: {other} beside {first}", forced.has_to_wait(places[name], setting, first, other) == expected
 
 
 def faults_of_answers() -> Iterator[tuple[str, object]]:
@@ -223,7 +249,7 @@ def faults_of_bundles() -> Iterator[tuple[str, object]]:
 
 
 def main() -> int:
-    parts = (faults_of_scripts, faults_of_answers, faults_of_vain, faults_of_holds, faults_of_endings, faults_of_ktap, faults_of_c, faults_of_bundles)
+    parts = (faults_of_scripts, faults_of_meetings, faults_of_answers, faults_of_vain, faults_of_holds, faults_of_endings, faults_of_ktap, faults_of_c, faults_of_bundles)
     return tally.ended("forced", parts)
 
 

@@ -10,6 +10,7 @@ from dataclasses import dataclass
 from itertools import accumulate
 from typing import Callable, Iterator, Union
 
+import forced
 from compare import Script
 from kernel.differences import Comparison, Difference
 from kernel.endings import Wrong, end_of, ends_of, way_at_end, wrongs
@@ -151,6 +152,8 @@ def minimized(minimizer: Minimizer, some: list[Script], choose: Callable[[Shown]
     """What some scripts show that is chosen, of the shortest, made as small as it gets."""
     if race_calls(some):
         raise Problem("what the calls of a race are is by chance, so a script with a race can't be minimized")
+    if any(line.endswith(forced.BLOCKED) for it in some for line in it.lines):
+        raise Problem("whether a call has to wait for one that is held depends on the lines before, so a script with 'wait TASK blocked' can't be minimized")
     say(f"{len(some)} scripts on {minimizer.kernel.name}")
     with Standing(minimizer.kernel) if can_stay(minimizer.kernel) else nullcontext() as minimizer.standing:
         return minimized_there(minimizer, some, choose)

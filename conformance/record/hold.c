@@ -362,15 +362,16 @@ static bool await_end(const struct task *task)
     return false;
 }
 
-bool let_go_for(struct task *task)
+enum beside let_go_for(struct task *task)
 {
-    bool is_ended, has_lasted;
+    struct hold hold;
+    bool is_ended;
 
     if (!now.task)
-        return true;
+        return WAITED;
     is_ended = now.task != task && await_end(task);
-    has_lasted = !get().ran_out;
-    if (!is_ended || !has_lasted)
+    hold = get();
+    if (!is_ended || hold.ran_out)
         let_go();
-    return has_lasted;
+    return hold.ran_out ? RAN_OUT : is_ended && hold.is_held ? OVERTOOK : WAITED;
 }

@@ -21,9 +21,18 @@ enum held {
  * each, with a bar between. The call of one task at a time can be held. */
 enum held ask_held(struct task *task, const struct call *call, const char *functions);
 
-/* Has a call that is held go on, if this task is to answer: it is held itself, or it waits for the one that is. Whether the hold
- * lasted until then, or until this task's call had ended; if not, the script shows nothing of the two calls. */
-bool let_go_for(struct task *task);
+/* How a call went on beside the one that is held. */
+enum beside {
+    /* it is held itself, or waited for the one that is; or none is held */
+    WAITED,
+    /* it has ended meanwhile */
+    OVERTOOK,
+    /* the hold ended before either: the script shows nothing of the two calls */
+    RAN_OUT,
+};
+
+/* Has a call that is held go on, if this task is to answer: it is held itself, or it waits for the one that is. */
+enum beside let_go_for(struct task *task);
 
 /* In a task's process: leaves the probe to the recorder. It stays where it is as long as any process has it open, so a call would be held
  * where one of the script before was. */

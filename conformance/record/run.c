@@ -317,12 +317,13 @@ static void run_deny(struct pool *pool, const struct line *line)
 static void run_wait(struct pool *pool, const struct line *line)
 {
     struct task *task = &pool->tasks[line->task - 1];
-    bool has_lasted = let_go_for(task);
+    enum beside beside = let_go_for(task);
+    const char *answer = beside == RAN_OUT ? "ranout" : line->is_blocked && beside == OVERTOOK ? "unblocked" : NULL;
 
-    pool->ran_out |= !has_lasted;
+    pool->ran_out |= beside == RAN_OUT;
     if (task->is_alive)
         wait_for(task, line->task);
-    printf("%s = %s", line->text, !task->is_alive ? "refused notalive" : has_lasted ? task->desk->answer : "ranout");
+    printf("%s = %s", line->text, !task->is_alive ? "refused notalive" : answer ? answer : task->desk->answer);
 }
 
 static void run_resize(struct pool *pool, const struct line *line)

@@ -264,8 +264,9 @@ static void read_deny(const struct reader *reader, const struct words *words, st
 
 static void read_wait(struct reader *reader, const struct words *words, struct line *line)
 {
-    if (words->count != 2)
-        bad(reader, "a wait is 'wait TASK'");
+    line->is_blocked = words->count == 3 && !strcmp(words->all[2], "blocked");
+    if (words->count != 2 && !line->is_blocked)
+        bad(reader, "a wait is 'wait TASK' or 'wait TASK blocked'");
     line->kind = LINE_WAIT;
     line->task = number_from(reader, words->all[1], 1, reader->open->tasks);
     if (!reader->is_at_work[line->task])

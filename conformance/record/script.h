@@ -79,6 +79,8 @@ struct line {
     struct call call;
     /* of LINE_HOLD: the names that the function has, with a bar between */
     char *functions;
+    /* of LINE_WAIT: the call can't end before the one that is held */
+    bool is_blocked;
     /* of LINE_RESIZE and LINE_OVERCOMMIT */
     unsigned frames;
 };
