@@ -63,7 +63,7 @@ def add_kernel(to: argparse.ArgumentParser) -> argparse._MutuallyExclusiveGroup:
     to.add_argument("--memory", type=positive, metavar="MIB", help="the memory of the emulated machine (768)")
     to.add_argument("--page", type=positive, default=kernels.PAGE, metavar="KIB", help="the size of huge pages (2048)")
     to.add_argument("--cpus", type=positive, default=2, metavar="N", help="processors of the emulated machine (2)")
-    to.add_argument("--seconds", type=positive, default=900, metavar="N", help="ends an emulated machine that isn't done by then (900)")
+    to.add_argument("--seconds", type=positive, default=1800, metavar="N", help="ends an emulated machine that isn't done by then (1800)")
     to.add_argument("--program", metavar="P", help="a program that answers for the machine: 'P replay' reads a trace")
     to.add_argument("--without", action="append", default=[], metavar="NAME", help="treats this known issue as new; may be repeated")
     to.add_argument("--known", type=Path, default=FOLDER, metavar="FOLDER", help="the known issues (conformance/known)")

@@ -23,8 +23,8 @@ RECORD = Path(__file__).resolve().parent.parent / "record"
 LOOK, SAY = 0.2, 15.0
 # a run without an answer for so many seconds says so
 SILENT = 30.0
-# a machine that hasn't begun to record by then is booted again, unless a fifth of the time that it may take is longer
-BOOT = 120
+# a machine that hasn't begun to record by then is booted again, unless a tenth of the time that it may take is longer
+BOOT = 180
 # a disk with less than so many bytes left is full
 FULL = 65536
 # what a recorder says where a kernel did what no rule allows: each pattern, and its sentence
@@ -263,7 +263,7 @@ class Emulation:
     @property
     def patience(self) -> int:
         """How many seconds it may take to boot."""
-        return max(BOOT, self.seconds // 5)
+        return max(BOOT, self.seconds // 10)
 
     def words(self) -> list[str]:
         words = ["--leave", "--cpus", str(self.cpus), "--seconds", str(self.seconds), "--boot-seconds", str(self.patience)]
