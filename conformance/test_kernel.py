@@ -449,6 +449,10 @@ def faults_of_commands() -> Iterator[tuple[str, object]]:
     for words, why in MISUSES:
         ran = subprocess.run([TOP / "kernel", *words], stdin=subprocess.DEVNULL, capture_output=True, text=True, check=False)
         yield str(words), (ran.returncode, ran.stdout, why in ran.stderr.splitlines()[-1]) == (2, "", True) or (ran.returncode, ran.stderr)
+    with tempfile.TemporaryDirectory(prefix="kernel-") as name:
+        (Path(name) / "compare.py").write_text("raise ValueError", encoding="utf-8")
+        ran = subprocess.run([TOP / "kernel", "known"], cwd=name, capture_output=True, text=True, check=False)
+        yield "called in a folder that has a module's name", (ran.returncode, ran.stderr) == (0, "") or ran.stderr
 
 
 def boots(room: Path, begins: int, works: int, is_hanging: bool = False) -> tuple[int, int]:
