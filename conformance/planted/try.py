@@ -65,6 +65,11 @@ class Found:
     first: str
     seconds: float
 
+    @property
+    def is_new(self) -> bool:
+        """Whether a suite shows something new. (A test that breaks has status 1, too, and tells of no suite.)"""
+        return self.status == 1 and self.suite != ""
+
 
 def read_planted(path: Path) -> Planted:
     head = dict(line.split(": ", 1) for line in path.read_text(encoding="utf-8").split("\n\n", 1)[0].splitlines())
@@ -159,11 +164,11 @@ def tried(it: Planted, image: Path, words: list[str]) -> tuple[str, bool]:
     image.unlink()
     line = row(it, found)
     print(f"{line} {found.first}", flush=True)
-    return line, found.status == 1
+    return line, found.is_new
 
 
 def row(it: Planted, found: Found) -> str:
-    how = f"`{found.suite}`" if found.status == 1 else f"**missed** (status {found.status})"
+    how = f"`{found.suite}`" if found.is_new else f"**missed** (status {found.status})"
     return f"| `{it.name}` | `{it.function}` | {it.what} | {how} | {found.seconds:.0f} |"
 
 
