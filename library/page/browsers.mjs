@@ -47,9 +47,18 @@ class Browser {
     return false;
   }
 
-  /** The pointer is pressed in the midst of an element, which is brought into sight, or so far from its corner. */
+  /** The pointer is pressed in the midst of an element, which is brought into sight, or so far from its corner. What comes into sight with
+   *  it may be laid out only then, and move it: so it has to stand still for two frames. */
   async click(selector, right, down) {
-    const { x, y } = await this.run(`(() => { const it = document.querySelector(${JSON.stringify(selector)}); it.scrollIntoView({ block: "center" });
+    const { x, y } = await this.run(`(async () => { const it = document.querySelector(${JSON.stringify(selector)});
+      const frame = () => new Promise((done) => requestAnimationFrame(() => setTimeout(done)));
+      for (let still = 0, tries = 0, before = NaN; still < 2 && tries < 60; tries++) {
+        it.scrollIntoView({ block: "center" });
+        await frame();
+        const { top } = it.getBoundingClientRect();
+        still = top === before ? still + 1 : 0;
+        before = top;
+      }
       const { x, y, width, height } = it.getBoundingClientRect(); return { x: x + (${right ?? "width / 2"}), y: y + (${down ?? "height / 2"}) }; })()`);
     await this.clickAt(x, y);
   }
