@@ -50,6 +50,8 @@ function showTrace(kept) {
 
 function show() {
   const pool = library.poolNumbers();
+  // (what looks how far something is scrolled comes first, while the page is laid out)
+  showPicked(Math.min(at, view.run.count) - 1); // (the picture of a long run may follow later)
   markRow(list, at);
   if (kept !== null) markRow(besideList, at);
   showMoves();
@@ -59,7 +61,6 @@ function show() {
   showBeginTasks(pool.tasks);
   showTasks();
   showResize(pool);
-  showPicked(Math.min(at, view.run.count) - 1); // (the picture of a long run may follow later)
   later();
 }
 

@@ -24,6 +24,7 @@ function showMoves() {
 }
 
 function stop() {
+  if (!isPlaying()) return;
   clearInterval(timer);
   timer = 0;
   $("play").textContent = "play";

@@ -27,11 +27,14 @@ function makeRow(list, place) {
   return row;
 }
 
+/** How far the list is scrolled, and how much of it is in sight. Where rows changed since, the browser lays the page out for this. */
+const sightOfRows = ({ scroller }) => ({ top: scroller.scrollTop, tall: scroller.clientHeight });
+
 /** Makes the rows that come into sight, and takes the others away. */
-function fillRows(list) {
-  const { scroller, height, count, rows, room } = list;
-  const from = Math.max(0, Math.floor(scroller.scrollTop / height) - OVER);
-  const to = Math.min(count, Math.ceil((scroller.scrollTop + scroller.clientHeight) / height) + OVER);
+function fillRows(list, { top, tall } = sightOfRows(list)) {
+  const { height, count, rows, room } = list;
+  const from = Math.max(0, Math.floor(top / height) - OVER);
+  const to = Math.min(count, Math.ceil((top + tall) / height) + OVER);
   for (const [place, row] of rows) {
     if (place >= from && place < to) continue;
     row.remove();
@@ -57,12 +60,12 @@ function setRows(list, count, from = 0) {
 /** Marks a row, and brings it into sight. */
 function markRow(list, place) {
   const { scroller, height } = list;
+  const { top, tall } = sightOfRows(list);
+  const wanted = Math.max(Math.min(top, place * height), (place + 1) * height - tall);
+  if (wanted !== top) scroller.scrollTop = wanted;
   list.rows.get(list.at)?.removeAttribute(list.mark);
   list.at = place;
-  if (place * height < scroller.scrollTop) scroller.scrollTop = place * height;
-  const below = (place + 1) * height - scroller.clientHeight;
-  if (below > scroller.scrollTop) scroller.scrollTop = below;
-  fillRows(list);
+  fillRows(list, { top: wanted, tall });
   for (const [other, row] of list.rows) row.classList.toggle("is-behind", other > place);
   list.rows.get(place)?.setAttribute(list.mark, "true");
   if (list.mark === "aria-selected") scroller.setAttribute("aria-activedescendant", `${scroller.id}-${place}`);

@@ -85,50 +85,77 @@ function chainOf(task, tasks) {
   return parts.join("; which ");
 }
 
-/** Since which event the task waits, as a link there. */
+/** The event since which the task waits; undefined where the picture doesn't say. */
 function sinceOf(task) {
   const lane = view.run.laneOf.get(task);
-  const wait = lane ? waitAt(view.run, lane, at - 1) : null;
-  if (!wait) return [];
-  const to = button(`line ${lineOf(wait.since)}`, () => pick(wait.since), { className: "link", title: "Shows the moment behind that line" });
-  return [", since ", to];
+  return lane && waitAt(view.run, lane, at - 1)?.since;
 }
 
-function showCall(card, task, { phase, is_blocked }) {
-  const word = words.phases[phase];
-  const call = callOf(task);
-  const isInCall = phase !== library.numbers.PHASE_NONE;
-  card.call.replaceChildren(...(isInCall ? [`${call} in `, element("b", { textContent: word, title: PHASES[word] })] : ["no call in flight"]));
-  card.linux.textContent = isInCall ? `next: ${PHASES[word]} (Linux: ${functionOf(view.run, call.split(" ", 1)[0], word) || data.linux[word]})` : "";
-  card.linux.hidden = !isInCall || is_blocked;
+const linuxOf = (call, word) => functionOf(view.run, call.split(" ", 1)[0], word) || data.linux[word];
+
+/** By task, those that wait for it. */
+function heldBackOf(tasks) {
+  const heldBack = new Map();
+  for (const [task, { is_blocked, holder }] of tasks) if (is_blocked) heldBack.set(holder, [...(heldBack.get(holder) ?? []), task]);
+  return heldBack;
 }
 
-function showCard(task, tasks) {
+/** All that a card says. */
+function saidOf(task, tasks, heldBack) {
   const { life, phase, is_blocked, mappings, entries } = tasks.get(task);
-  const card = cards.get(task);
   const isInCall = phase !== library.numbers.PHASE_NONE;
   const isDead = life === library.numbers.LIFE_DEAD;
-  const blocked = [...tasks].filter(([, it]) => it.is_blocked && it.holder === task).map(([it]) => it);
+  const call = isInCall ? callOf(task) : "";
   const next = isInCall || isDead ? undefined : nextOf(task);
-  card.root.className = `task${is_blocked ? " is-blocked" : ""}${isDead ? " is-dead" : ""}`;
-  card.life.textContent = card.life.className = words.lives[life];
-  showCall(card, task, tasks.get(task));
-  card.waits.replaceChildren(...(is_blocked ? [chainOf(task, tasks), ...sinceOf(task)] : []));
+  return {
+    life, phase, is_blocked, mappings, entries, isInCall, isDead, call,
+    begin: next?.begin,
+    left: next && leftOf(next, tasks),
+    linux: isInCall && !is_blocked ? linuxOf(call, words.phases[phase]) : "",
+    chain: is_blocked ? chainOf(task, tasks) : "",
+    since: is_blocked ? sinceOf(task) : undefined,
+    blocked: heldBack.get(task) ?? [],
+  };
+}
+
+function showCall(card, { phase, call, linux, isInCall }) {
+  const word = words.phases[phase];
+  card.call.replaceChildren(...(isInCall ? [`${call} in `, element("b", { textContent: word, title: PHASES[word] })] : ["no call in flight"]));
+  card.linux.textContent = linux && `next: ${PHASES[word]} (Linux: ${linux})`;
+  card.linux.hidden = linux === "";
+}
+
+function showWaits(card, { is_blocked, chain, since, blocked }) {
+  const link = (to) => button(`line ${lineOf(to)}`, () => pick(to), { className: "link", title: "Shows the moment behind that line" });
+  card.waits.replaceChildren(chain, ...(since === undefined ? [] : [", since ", link(since)]));
   card.waits.hidden = !is_blocked;
   const named = `task${blocked.length === 1 ? "" : "s"} ${blocked.join(", ")}`;
   card.blocks.textContent = `holds back ${blocked.length > FEW_WAITS ? `${blocked.length} tasks` : named}`;
   card.blocks.hidden = blocked.length === 0;
+}
+
+/** Has a card say what is so now; one that says so already is left alone, since the browser would lay it out anew. */
+function showCard(task, tasks, heldBack) {
+  const card = cards.get(task);
+  const said = saidOf(task, tasks, heldBack);
+  const key = JSON.stringify(said);
+  if (card.key === key) return;
+  card.key = key;
+  const { life, is_blocked, mappings, entries, isInCall, isDead } = said;
+  card.root.className = `task${is_blocked ? " is-blocked" : ""}${isDead ? " is-dead" : ""}`;
+  card.life.textContent = card.life.className = words.lives[life];
+  showCall(card, said);
+  showWaits(card, said);
   card.seen.textContent = `${plural(mappings, "mapping")}, ${plural(entries, "translated page")}`;
   for (const it of [card.step, card.deny]) setOff(it, !isInCall || is_blocked);
   setOff(card.kill, life !== library.numbers.LIFE_ALIVE);
-  card.step.hidden = card.deny.hidden = next !== undefined;
-  showNext(card, next, tasks);
+  showNext(card, said);
 }
 
-function showNext(card, next, tasks) {
-  const left = next && leftOf(next, tasks);
-  card.next.textContent = next?.begin ?? "";
-  card.next.hidden = next === undefined;
+function showNext(card, { begin, left }) {
+  card.step.hidden = card.deny.hidden = begin !== undefined;
+  card.next.textContent = begin ?? "";
+  card.next.hidden = begin === undefined;
   card.next.title = left ? `The script begins it once ${plural(left.count, "call")} of task ${left.task} ended` : "The task's next call by the script";
   setOff(card.next, left !== undefined);
 }
@@ -164,9 +191,10 @@ function put(place, elements) {
 }
 
 function showCards(numbers, tasks) {
+  const heldBack = heldBackOf(tasks);
   for (const it of numbers) {
     if (!cards.has(it)) cards.set(it, cardOf(it));
-    showCard(it, tasks);
+    showCard(it, tasks, heldBack);
   }
   return numbers.map((it) => cards.get(it).root);
 }
