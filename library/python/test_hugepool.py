@@ -7,7 +7,10 @@ import gc
 import json
 import pickle
 import re
+import signal
+import subprocess
 import sys
+import time
 from pathlib import Path
 from threading import Thread
 
@@ -376,6 +379,76 @@ def test_a_bad_search_is_told():
         hugepool.find("pool 1 1 1 1\n", "rest", limit=1.5)
     with pytest.raises(TypeError):
         hugepool.find(5, "rest")
+    for asked in b"rest", [b"rest"], [1], ["rest", None]:
+        with pytest.raises(TypeError):
+            hugepool.find("pool 1 1 1 1\n", asked)
+
+
+class Whole:
+    """A whole number that is no int, as those of other modules are."""
+
+    def __init__(self, number: int) -> None:
+        self.number = number
+
+    def __index__(self) -> int:
+        return self.number
+
+
+def test_a_number_of_a_search_may_be_of_another_kind():
+    script, asked = (EXAMPLES / "truncate-against-fault.script").read_bytes(), ["blocked 2", "answer 1:2=beyond"]
+    found = hugepool.find(script, asked, seed=Whole(5), limit=Whole(1), deny=Whole(0), kill=Whole(0))
+    assert found == hugepool.find(script, asked, seed=5, limit=1)
+    with pytest.raises(hugepool.LimitReached):
+        hugepool.find_every(script, asked, denials=Whole(0), kills=Whole(0), states=Whole(1))
+
+
+# with states without end, no schedule of this script is found in minutes
+ENDLESS = f"hugepool.find_every(open({str(EXAMPLES / '64-backends-one-segment.script')!r}).read(), 'answer 1:9=segv', states=90_000_000)"
+
+
+def test_an_interrupt_ends_a_search():
+    code = f"import hugepool; print('begun', flush=True); {ENDLESS}"
+    how = {"cwd": Path(__file__).parent, "stdout": subprocess.PIPE, "stderr": subprocess.PIPE}
+    with subprocess.Popen([sys.executable, "-c", code], **how) as ran:
+        try:
+            assert ran.stdout.readline() == b"begun\n"
+            time.sleep(0.5)
+            ran.send_signal(signal.SIGINT)
+            said = ran.communicate(timeout=20)[1]
+        finally:
+            ran.kill()
+    assert b"KeyboardInterrupt" in said
+
+
+def test_a_search_in_another_thread_goes_on_beside():
+    script, told = (EXAMPLES / "truncate-against-fault.script").read_bytes(), []
+    asked = "blocked 2\nanswer 1:2=beyond"
+
+    def search() -> None:
+        told.append((hugepool.find(script, asked), hugepool.find_every(script, asked, states=100_000)))
+
+    threads = [Thread(target=search) for _ in range(4)]
+    for it in threads:
+        it.start()
+    search()
+    for it in threads:
+        it.join()
+    assert told == 5 * [told[0]] and told[0][0].run == 4 and told[0][1] is not None
+
+
+def test_a_room_that_there_is_no_memory_for():
+    code = """if True:
+        import hugepool, resource
+        used = int(open("/proc/self/statm").read().split()[0]) * resource.getpagesize()
+        resource.setrlimit(resource.RLIMIT_AS, (used + (40 << 20), -1))
+        for call in (lambda: hugepool.find("pool 1 1 1 1\\n", "rest")), (lambda: hugepool.draw("pool 1 1 1 1\\n" + 900_000 * "step 1\\n")):
+            try:
+                call()
+            except hugepool.OutOfMemory as why:
+                print(f"{type(why).__name__}: {why}")
+    """
+    ran = subprocess.run([sys.executable, "-c", code], cwd=Path(__file__).parent, capture_output=True, text=True)
+    assert ran.stdout == 2 * "OutOfMemory: There was no memory\n", ran.stderr
 
 
 def test_the_version_is_that_of_the_library():

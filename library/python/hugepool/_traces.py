@@ -1,12 +1,12 @@
 """Whole traces as texts."""
 from __future__ import annotations
 
-from ctypes import byref, c_char, c_size_t, c_uint32
+from ctypes import Array, byref, c_char, c_size_t, c_uint32
 from mmap import MAP_ANONYMOUS, MAP_PRIVATE, mmap
 from typing import Callable
 
 from hugepool import _library
-from hugepool._errors import BAD_HEADER, BAD_LINE, OK, TOO_SMALL, BadTrace, error_of
+from hugepool._errors import BAD_HEADER, BAD_LINE, NO_MEMORY, OK, TOO_SMALL, BadTrace, error_of
 
 
 def bytes_of(trace: str | bytes) -> bytes:
@@ -24,11 +24,18 @@ _LEAST, _TIMES, _MOST = 1 << 16, 80, 1 << 28
 _LAST = (1 << 32) - 1
 
 
+def _roomy(size: int) -> Array[c_char]:
+    try:
+        return (c_char * size).from_buffer(mmap(-1, size, MAP_PRIVATE | MAP_ANONYMOUS))
+    except OSError as why:
+        raise error_of(NO_MEMORY) from why
+
+
 def put(call: Callable[..., int], room: int, *words: object) -> tuple[int, str]:
     """What is put into a room that is large enough, which is read there."""
     needed = c_size_t()
     while True:
-        out = (c_char * room).from_buffer(mmap(-1, room, MAP_PRIVATE | MAP_ANONYMOUS))
+        out = _roomy(room)
         code = call(out, room, byref(needed), *words)
         if code != TOO_SMALL:
             return code, str(memoryview(out)[: needed.value], "utf-8") if code == OK else ""
