@@ -147,6 +147,10 @@ async function tryTexts() {
   await expect("the lines before it are run", isAt(1, 1));
   await type(["pool 0 1 4 2"]);
   await expect("what is wrong with a header", `${text("#fault")}.startsWith("Line 1 is not a pool header: ")`);
+  await type([]);
+  await expect("no line at all", `document.querySelectorAll("#lines .row").length === 0 && !document.getElementById("fault").hidden`);
+  await browser.click("#script");
+  await expect("which is no script", `${text("#fault")}.startsWith("Line 1 is not a pool header: ")`);
   await type(["# two pages", "pool 4 1 4 2  # small", "", "begin 1 map 0 0 2", "step 1 *3", "step 1 until ended"]);
   await expect("comments and repeats", `${text("#now")}.includes("ended mapped 0 (event 8 of 8)") && document.getElementById("fault").hidden && ${shows(9)}`);
   await type(["pool 4 1 4 2", "# a store ends at once", "begin 1 store 0 7", "step 1 until taken"]);
@@ -338,6 +342,25 @@ async function tryStops() {
   await expect("Escape stops it", isSaid("Stopped."));
 }
 
+/** What a stopped worker sent before is dropped. */
+async function tryStopped() {
+  await open("#two-maps-one-lock");
+  await act(`window.made = []; window.Worker = class { constructor() { made.push(this); } postMessage() {} terminate() {} };`);
+  const sends = (worker, told) => act(`setTimeout(() => made[${worker}].onmessage({ data: ${JSON.stringify(told)} }));`);
+  await asks("blocked 2");
+  await browser.click("#find");
+  await sends(0, { answer: "so far", done: 3 });
+  await expect("it is heard", `${text("#search-count")}.startsWith("3 runs")`);
+  await browser.click("#stop-search");
+  await sends(0, { answer: "so far", done: 7 });
+  await browser.click("#find");
+  await sends(0, { answer: "none" });
+  await browser.run("new Promise((done) => setTimeout(done, 50))");
+  await expect("nothing is heard of the one that was stopped", `document.getElementById("searching").getAttribute("aria-busy") === "true" && document.getElementById("fault").hidden`);
+  await sends(1, { answer: "none" });
+  await expect("the next one is heard", `${text("#search-said")}.startsWith("None of 65,536 runs meets all conditions")`);
+}
+
 /** Two schedules of one script, side by side. */
 async function tryBeside() {
   await open("#two-maps-one-lock@5");
@@ -443,10 +466,10 @@ async function tryRoles() {
 const asked = process.env.TRIES?.split(" ").map((it) => `try${it}`);
 await inBrowsers(async (...it) => {
   [browser, kind] = it;
-  const all = [tryMoves, tryPicture, tryEvents, tryFields, tryTexts, tryWaits, tryPlaying, tryAddresses, tryFiles, tryConditions, tryMinimizing, tryFinding, tryStops, tryBeside, tryLong, tryRoles, tryMissing, tryLooks];
+  const all = [tryMoves, tryPicture, tryEvents, tryFields, tryTexts, tryWaits, tryPlaying, tryAddresses, tryFiles, tryConditions, tryMinimizing, tryFinding, tryStops, tryStopped, tryBeside, tryLong, tryRoles, tryMissing, tryLooks];
   await open("");
   const finds = await browser.run(`!document.getElementById("find").hidden`);
-  const left = finds ? [] : [tryFinding, tryStops];
+  const left = finds ? [] : [tryFinding, tryStops, tryStopped];
   if (!finds) console.log("left out: random runs and all schedules, which the page's module doesn't search");
   for (const tries of all.filter((one) => !left.includes(one) && (!asked || asked.includes(one.name)))) await tries();
   const wrong = await browser.complaints(address);

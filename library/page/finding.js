@@ -35,6 +35,17 @@ function makeSearcher() {
 const refuseSearch = (why) =>
   endSearch(`This browser lets the page have no worker, in which it would search${why ? ` (${why})` : ""}: the program can, see below.`);
 
+/** Hears a worker, as long as it is the one that searches: one that was stopped may have sent something before. */
+function listenToSearch(worker) {
+  worker.onmessage = ({ data: told }) => {
+    if (searching?.worker === worker) hearSearch(told);
+  };
+  worker.onerror = (event) => {
+    event.preventDefault();
+    if (searching?.worker === worker) refuseSearch(event.message);
+  };
+}
+
 /** Begins a search by the conditions: of random runs, of all schedules, or for a small trace of what is shown. */
 function beginSearch(kind) {
   if (searching !== null || $(kind).hidden || !readConditions(true)) return;
@@ -50,11 +61,7 @@ function beginSearch(kind) {
     refuseSearch(error.message);
     return;
   }
-  searching.worker.onmessage = ({ data: told }) => hearSearch(told);
-  searching.worker.onerror = (event) => {
-    event.preventDefault();
-    refuseSearch(event.message);
-  };
+  listenToSearch(searching.worker);
   searching.worker.postMessage({ bytes: wasmBytes, header: data.header, kind, asked });
   searching.timer = setInterval(countSearch, 250);
   showSearch();

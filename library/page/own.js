@@ -178,8 +178,8 @@ function scriptOf(lines) {
   return made;
 }
 
-/** The header of a trace, or of a script. */
-const headerOf = (kind, line) => line.replace(/^\w+/, kind);
+/** The header of a trace, or of a script; of no line, an empty one. */
+const headerOf = (kind, line = "") => line.replace(/^\w+/, kind);
 
 /** Takes lines as a script, of which nothing has happened yet. */
 function takeScript(lines, name) {
