@@ -42,7 +42,7 @@ def build(room: Path) -> None:
         archive.prove("library")
     except archive.Failed as why:
         sys.exit(str(why))
-    for source in "examples/branches", "tests/texts", "tests/misuse", "tests/refused", "tests/searches", "tests/threads":
+    for source in "examples/branches", "examples/find", "tests/texts", "tests/misuse", "tests/refused", "tests/searches", "tests/threads":
         to = room / Path(source).name
         more = [] if source in ("tests/refused", "tests/searches") else [LIBRARY / "heap.c"]
         words = ["cc", *SANITIZED, "-I", LIBRARY / "include", "-o", to, LIBRARY / f"{source}.c", *more, ARCHIVE]
@@ -236,6 +236,26 @@ def try_searches(room: Path) -> tuple[int, int]:
     return len(rows) - wrong, wrong + (not rows)
 
 
+# what examples/find.c prints of a script by conditions, and its status: a load of a page that isn't mapped ends at its first step
+FOUND = [
+    (b"pool 1 1 1 1\nbegin 1 load 0\n", ["answer 1:1=SIGSEGV", "rest"], 0, b"pool 1 1 1 1\nbegin 1 load 0\nstep 1\n"),
+    (b"pool 1 1 1 1\nbegin 1 load 0\n", ["answer 1:1=done"], 1, b""),
+    (b"pool 1 1 1 1\nbegin 1 load 0\n", ["rest", "blocked 0"], 2, b""),
+    (b"pool 1 1 1 1\nstep 1\n", ["rest"], 2, b""),
+]
+
+
+def try_find(room: Path) -> tuple[int, int]:
+    """What the example finds."""
+    wrong = 0
+    for script, asked, status, wanted in FOUND:
+        code, told, complaint = run(room / "find", *asked, read=script)
+        is_well = code == status and told == wanted and bool(complaint) == bool(status)
+        wrong += not is_well
+        print("" if is_well else f"library: examples/find.c: {asked}: status {code}: {(told + complaint).decode()}", end="")
+    return len(FOUND) - wrong, wrong
+
+
 def main() -> int:
     words = argparse.ArgumentParser(description=__doc__, formatter_class=argparse.RawDescriptionHelpFormatter)
     words.add_argument("--events", type=int, default=200_000, metavar="N", help="events of random numbers (200000)")
@@ -254,7 +274,7 @@ def main() -> int:
             code, told, complaint = run(room / program, str(asked.events), seed)
             passed, failed = passed + (code == 0), failed + (code != 0)
             print(f"library: {told.decode() or complaint.decode()}", end="")
-        for tried in (try_searches, try_exports, try_variables, try_rust, try_python, try_wheel, try_page):
+        for tried in (try_searches, try_find, try_exports, try_variables, try_rust, try_python, try_wheel, try_page):
             well, wrong = tried(room)
             passed, failed = passed + well, failed + wrong
     print(f"{passed} passed, {failed} failed")

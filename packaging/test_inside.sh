@@ -9,6 +9,10 @@ mount -t devpts -o newinstance,ptmxmode=0666 devpts /dev/pts
 passed=0 failed=0
 doc=/usr/share/doc/hugepool
 replay_in_python='import hugepool, sys; sys.stdout.write(hugepool.replay(sys.stdin.read()))'
+find_in_python='import hugepool, sys
+script, asked = sys.stdin.read(), ["answer 1:1=SIGSEGV"]
+found = hugepool.minimize(hugepool.find(script, asked).trace, asked)
+sys.stdout.write(found if hugepool.find_every(script, asked) == found else "")'
 trace=$doc/examples/map-four-of-four.trace
 
 # Whether a command ends well. If not, what it printed is shown.
@@ -51,6 +55,13 @@ prints_outcomes() {
     "$@" < "$trace" | cmp - <(head -n "$events" "${trace%.trace}.out")
 }
 
+# A small run of a script by conditions, as a program prints it: a task loads a page that it didn't map.
+finds() {
+    printf 'pool 1 1 1 1\nbegin 1 load 0\n' | "$@" | cmp - <(printf 'pool 1 1 1 1\nbegin 1 load 0\nstep 1\n')
+}
+
+finds_and_minimizes() { hugepool find --answer 1:1=SIGSEGV | hugepool minimize --answer 1:1=SIGSEGV; }
+
 # Runs what the manual page of each command shows, in the folder that it names
 runs_its_examples() {
     local words
@@ -78,7 +89,8 @@ same_version() { [ "$(hugepool --version)" = "hugepool $(pkg-config --modversion
 # shellcheck disable=SC2046  # (pkg-config prints several words)
 compiles() {
     cp /usr/share/doc/libhugepool-dev/examples/* . &&
-        cc -Wall -Werror -o branches branches.c $(pkg-config --cflags --libs hugepool) && ldd branches | grep 'libhugepool.so.1 => /' > /dev/null
+        cc -Wall -Werror -o branches branches.c $(pkg-config --cflags --libs hugepool) && ldd branches | grep 'libhugepool.so.1 => /' > /dev/null &&
+        cc -Wall -Werror -o find find.c $(pkg-config --cflags --libs hugepool)
 }
 
 compiles_statically() { cc -Wall -Werror -o branches-static branches.c -l:libhugepool.a && ! ldd branches-static | grep hugepool; }
@@ -140,6 +152,8 @@ try "packages are found" apt-get -qq update
 try "there is no toolchain, compiler or program" has_none_of rt rattle cc hugepool
 try "hugepool installs" installs_given hugepool
 try "hugepool replay prints what stands beside the traces" replays_all hugepool replay
+try "hugepool find and minimize" finds finds_and_minimizes
+try "hugepool find --every" finds hugepool find --every --answer 1:1=SIGSEGV
 try "PROVED names a commit and checksums" says_what_is_proved $doc/PROVED
 
 try "python3-hugepool finds no libhugepool1 by itself" bash -c '! apt-get -qq -y install /given/python3-hugepool_*.deb < /dev/null'
@@ -147,12 +161,14 @@ try "libhugepool1 installs" installs_given libhugepool1
 try "python3-hugepool installs" installs_given python3-hugepool
 try "python3 -c 'import hugepool'" python3 -c 'import hugepool'
 try "Python replays the traces" replays_all python3 -c "$replay_in_python"
+try "Python finds and minimizes" finds python3 -c "$find_in_python"
 try "PROVED stands beside the library" says_what_is_proved /usr/share/doc/libhugepool1/PROVED
 
 try "pip and venv install" installs python3-venv python3-pip
 try "the wheel installs in an environment of its own" installs_wheel
 try "PROVED stands in the wheel" says_what_is_proved /root/venv/lib/python3.*/site-packages/hugepool/PROVED
 try "there Python replays the traces, too" replays_all /root/venv/bin/python -c "$replay_in_python"
+try "there Python finds and minimizes, too" finds /root/venv/bin/python -c "$find_in_python"
 
 try "man-db installs" installs man-db bsdextrautils
 try "man hugepool-trace" has_page "Outcomes" 5 hugepool-trace
@@ -163,9 +179,10 @@ try "the commands of a page run" runs_its_examples
 try "libhugepool-dev installs" installs_given libhugepool-dev
 try "gcc and pkg-config install" installs gcc libc6-dev pkg-config
 try "pkg-config has the program's version" same_version
-try "a C program compiles by pkg-config" compiles
-try "it prints the outcomes" prints_outcomes ./branches
-try "it compiles with the static library" compiles_statically
+try "C programs compile by pkg-config" compiles
+try "one prints the outcomes" prints_outcomes ./branches
+try "the other finds and minimizes" finds ./find 'answer 1:1=SIGSEGV'
+try "the first compiles with the static library" compiles_statically
 try "it prints the same" prints_outcomes ./branches-static
 try "the library exports hugepool_ names alone" exports_only_its_calls
 
