@@ -6,8 +6,8 @@ usage: library/check.py [--events N]
 It builds the proved archive, a heap over malloc and the programs of library/examples and library/tests. Then, on the traces of examples/:
 outcomes, with a branch at each moment at rest, and texts are those beside the trace, to the byte, and pictures those of docs/pictures; and
 of each trace that isn't long each growth of memory is refused once, and pools that run it go from thread to thread. Then the searches of
-examples/commands; calls that name nothing, closed pools, the largest pool, rooms that are too small, and N events of random numbers (200,000; a long try is 10,000,000); and
-that the library has no variables, which threads would share.
+examples/commands, and others by conditions of random words; calls that name nothing, closed pools, the largest pool, rooms that are too
+small, and N events of random numbers (200,000; a long try is 10,000,000); and that the library has no variables, which threads would share.
 
 At last the crates for Rust, where there is cargo, each way that they find the library; the Python module, where there is pytest; a wheel
 in an environment of its own, where there are setuptools; and the programs of docs/LIBRARY.md.
@@ -32,8 +32,12 @@ from archive import ARCHIVE, TOP
 
 LIBRARY = TOP / "library"
 SANITIZED = ["-std=gnu11", "-O1", "-g", "-Wall", "-Wextra", "-Werror", "-fsanitize=address,undefined", "-fno-sanitize-recover=all"]
+PROGRAMS = {"examples": ["branches", "find"], "tests": ["texts", "misuse", "refused", "searches", "odd_searches", "threads"]}
+OWN_HEAPS = ("tests/refused", "tests/searches")
 # of traces with more lines than this only some growths would be refused in a minute
 LONG = 300
+# searches by random words, which take some 5 seconds
+ODD_SEARCHES = 4_000
 
 
 def build(room: Path) -> None:
@@ -42,9 +46,9 @@ def build(room: Path) -> None:
         archive.prove("library")
     except archive.Failed as why:
         sys.exit(str(why))
-    for source in "examples/branches", "examples/find", "tests/texts", "tests/misuse", "tests/refused", "tests/searches", "tests/threads":
+    for source in (f"{folder}/{it}" for folder, names in PROGRAMS.items() for it in names):
         to = room / Path(source).name
-        more = [] if source in ("tests/refused", "tests/searches") else [LIBRARY / "heap.c"]
+        more = [] if source in OWN_HEAPS else [LIBRARY / "heap.c"]
         words = ["cc", *SANITIZED, "-I", LIBRARY / "include", "-o", to, LIBRARY / f"{source}.c", *more, ARCHIVE]
         ran = subprocess.run(words, stdout=subprocess.PIPE, stderr=subprocess.STDOUT, text=True)
         if ran.returncode:
@@ -270,8 +274,8 @@ def main() -> int:
                 for what, is_well, complaint in told:
                     passed, failed = passed + is_well, failed + (not is_well)
                     print("" if is_well else f"library: {trace.relative_to(TOP)}: {what}: {complaint or 'another text'}\n", end="")
-        for program, seed in ("misuse", "1"), ("misuse", "2"):
-            code, told, complaint = run(room / program, str(asked.events), seed)
+        for program, tries, seed in ("misuse", asked.events, "1"), ("misuse", asked.events, "2"), ("odd_searches", ODD_SEARCHES, "1"):
+            code, told, complaint = run(room / program, str(tries), seed)
             passed, failed = passed + (code == 0), failed + (code != 0)
             print(f"library: {told.decode() or complaint.decode()}", end="")
         for tried in (try_searches, try_find, try_exports, try_variables, try_rust, try_python, try_wheel, try_page):
