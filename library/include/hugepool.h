@@ -379,8 +379,8 @@ uint32_t hugepool_reason(const uint8_t *trace, size_t length, uint32_t line, uin
  *     rest
 
  * or `anywhere`, which says that calls may be in flight at the end where a line `final` asks for a count there. A line break may end the
- * last line. Each call stops at the first bad line of the conditions (BAD_CONDITION, *line), and only then reads the other text. It makes
- * no thread; it returns when it is done, so bound what it may do.
+ * last line; there are at most 65,536, and the next one is told as a bad line. Each call stops at the first bad line of the conditions
+ * (BAD_CONDITION, *line), and only then reads the other text. It makes no thread; it returns when it is done, so bound what it may do.
  */
 
 /** A small trace of those that the trace can be cut to, by dropping events and lowering numbers, and that still meet the conditions:

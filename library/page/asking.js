@@ -28,7 +28,7 @@ function readConditions(isAsked) {
   const bad = library.wrongCondition(textOf(conditionTexts()));
   const wrong = bad === null || (bad === 0 && !isAsked) ? null : (lines[bad - 1] ?? { line: "", number: 0 });
   $("condition-fault").hidden = wrong === null;
-  $("condition-fault").textContent = wrong ? wrongWords(wrong) : "";
+  $("condition-fault").textContent = wrong ? wrongWords(wrong, bad > MOST_CONDITIONS) : "";
   $("conditions").setAttribute("aria-invalid", `${wrong !== null}`);
   showSearches();
   if (isAsked && wrong) pickLine(wrong);

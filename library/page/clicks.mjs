@@ -261,6 +261,8 @@ async function tryConditions() {
   await expect("the first line that is none", `${text("#condition-fault")}.startsWith('Line 4 is no condition: "blocked 0".') && document.getElementById("conditions").getAttribute("aria-invalid") === "true"`);
   await browser.click("#minimize");
   await expect("it is picked", `(() => { const it = document.getElementById("conditions"); return it.value.slice(it.selectionStart, it.selectionEnd) === "blocked 0"; })()`);
+  await act(`const it = document.getElementById("conditions"); it.value = "\\n" + "rest\\n".repeat(65537); it.dispatchEvent(new Event("input"));`);
+  await expect("more than there may be", `${text("#condition-fault")} === "There may be 65,536 conditions: line 65538 says one more."`);
   await asks("blocked *");
   await expect("the fault goes", `document.getElementById("condition-fault").hidden`);
   await word("at");

@@ -89,9 +89,14 @@ export function conditionOf(word, isNot, { task, call, answer, phase, other, oth
   return word in values ? `${word} ${isNot ? "not " : ""}${values[word]}` : word;
 }
 
-/** What is wrong with a line of that number; 0 is the number where there is none at all. */
-export function wrongWords({ line, number }) {
+/** A text of conditions has no more lines. */
+export const MOST_CONDITIONS = 65_536;
+
+/** What is wrong with a line of that number; 0 is the number where there is none at all. The last is
+ *  whether it is behind all lines that there may be. */
+export function wrongWords({ line, number }, isBeyond = false) {
   if (number === 0) return "No line says a condition yet.";
+  if (isBeyond) return `There may be ${MOST_CONDITIONS.toLocaleString("en")} conditions: line ${number} says one more.`;
   const word = line.split(" ", 1)[0];
   const first = `Line ${number} is no condition: "${line}".`;
   if (!Object.hasOwn(CONDITIONS, word)) return `${first} A line begins with ${Object.keys(CONDITIONS).join(", ")}.`;

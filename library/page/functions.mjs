@@ -71,6 +71,8 @@ for (const [line, number, wanted] of [
   ["constructor 1", 1, 'Line 1 is no condition: "constructor 1". A line begins with answer, at, blocked, meet, final, rest, anywhere.'],
 ]) expect(`what is wrong with ${line}`, wrongWords({ line, number }), wanted);
 
+expect("more conditions than there may be", wrongWords({ line: "rest", number: 65_540 }, true), "There may be 65,536 conditions: line 65540 says one more.");
+
 const answers = Object.keys(data.header.numbers).filter((it) => it.startsWith("ANSWER_")).map((it) => it.slice(7).replaceAll("_", "").toLowerCase()).sort();
 expect("each answer has words", Object.keys(ANSWERS).sort(), answers);
 const phases = Object.keys(data.header.numbers).filter((it) => it.startsWith("PHASE_") && it !== "PHASE_NONE").map((it) => it.slice(6).toLowerCase()).sort();

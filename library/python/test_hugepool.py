@@ -360,6 +360,9 @@ def test_a_bad_search_is_told():
             hugepool.minimize(trace, asked)
         assert (raised.value.line, raised.value.text) == (line, said)
         assert str(pickle.loads(pickle.dumps(raised.value))) == str(raised.value)
+    with pytest.raises(hugepool.BadCondition) as raised:
+        hugepool.minimize(trace, 65_537 * ["rest"])
+    assert raised.value.line == 65_537 and str(raised.value) == "there are more than 65,536 lines of conditions"
     with pytest.raises(hugepool.BadTrace) as raised:
         hugepool.minimize(trace + "stop 1\n", ["rest"])
     assert raised.value.line == 4

@@ -41,6 +41,10 @@ class BadTrace(Error, ValueError):
         return f"line {self.line} is not allowed here: {self.reason}"
 
 
+# a text of conditions has no more lines
+MOST_CONDITIONS = 65_536
+
+
 class BadCondition(Error, ValueError):
     """A line is no condition: its number, counted from 1, and the line; or no line says a condition, at line 0."""
 
@@ -49,6 +53,8 @@ class BadCondition(Error, ValueError):
         self.line, self.text = line, text
 
     def __str__(self) -> str:
+        if self.line > MOST_CONDITIONS:
+            return f"there are more than {MOST_CONDITIONS:,} lines of conditions"
         return f"line {self.line} is no condition: {self.text!r}" if self.line else "no line says a condition"
 
 

@@ -67,6 +67,7 @@ impl fmt::Display for SearchFault {
     fn fmt(&self, f: &mut fmt::Formatter<'_>) -> fmt::Result {
         match self {
             SearchFault::BadCondition(0) => write!(f, "no line says a condition"),
+            SearchFault::BadCondition(line) if *line > MOST_CONDITIONS => write!(f, "there are more than {MOST_CONDITIONS} lines of conditions"),
             SearchFault::BadCondition(line) => write!(f, "line {line} is no condition"),
             SearchFault::BadTrace(bad) => bad.fmt(f),
             SearchFault::LimitReached(turns) => write!(f, "the bound of states was reached at schedules of {turns} turns"),
@@ -89,6 +90,8 @@ const BAD_HEADER: u32 = 6;
 const BAD_CONDITION: u32 = 8;
 const NONE_MEETS: u32 = 9;
 const LIMIT_REACHED: u32 = 10;
+/// A text of conditions has no more lines.
+const MOST_CONDITIONS: u32 = 65_536;
 /// No trace has more bytes. (Memory that isn't written to is none.)
 const ROOM: usize = 1 << 26;
 

@@ -48,6 +48,8 @@ fn a_shortest_schedule_is_found() {
 fn faults_are_told() {
     assert_eq!(minimize(MAP, "rest\nblocked 0\n"), Err(SearchFault::BadCondition(2)));
     assert_eq!(find(MAP, "", Hunt::default()), Err(SearchFault::BadCondition(0)));
+    let many = find(MAP, &"rest\n".repeat(65_537), Hunt::default()).unwrap_err();
+    assert_eq!((&many, many.to_string().as_str()), (&SearchFault::BadCondition(65_537), "there are more than 65536 lines of conditions"));
     let told = find(b"pool 4 1 4 1\nstep 1\n", "blocked 1", Hunt::default()).unwrap_err();
     assert!(matches!(&told, SearchFault::BadTrace(BadTrace { line: 2, .. })), "{told:?}");
     let two = b"pool 4 1 4 2\nbegin 1 map 0 0 4\nbegin 2 map 0 0 4\n";
