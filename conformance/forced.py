@@ -72,6 +72,8 @@ ABOVE, BEYOND = "store 3 6", "wait 2 = beyond"
 # committed what the map answered. The reservations of another file, which are counted meanwhile, keep the count above zero
 WIDER_POOL, KEPT = "pool 16 2 8 2 16", "begin 1 map 1 0 3"
 RECOVERED = {"store 1 5": ("frame", "page"), "store 3 5": ("frame", "quota", "commit", "page")}
+# a page that a punch has yet to remove, touched in two mappings of a task while the punch is held at a page before it
+AGAIN, TWICE = "begin 2 mapn 0 0 5", ("start 2 store 2 6", "wait 2", "start 2 load 7", "wait 2")
 # behind the wait for a call that can't end before the one that is held
 BLOCKED = " blocked"
 # calls that hold the file's lock from their begin to their end, those that visit each index of their range, and those that touch one
@@ -122,6 +124,10 @@ def held() -> Iterator[Script]:
     for place, setting in product(PLACES, (*CUTTABLE, "allocated")):
         if place.name in CUTTING:
             yield script(f"held.{place.name}.{setting}.above", setting, (hold(place, CUT), f"start 2 {ABOVE}", "wait 2", "wait 1"))
+    for place in PLACES:
+        if place.name in SLOTTED:
+            lines = (AGAIN, hold(place, HELD[-1]), *TWICE, "wait 1", "begin 1 load 1", "begin 1 load 2")
+            yield script(f"held.{place.name}.allocated.twice", "allocated", lines)
     for first, place in product(RECOVERED, PLACES):
         if place.name in RECOVERED[first]:
             lines = (KEPT, hold(place, first), "start 2 trunc 0 0", "wait 2", "wait 1", "begin 2 trunc 0 0", "begin 1 trunc 1 0")
