@@ -405,12 +405,19 @@ def test_a_number_of_a_search_may_be_of_another_kind():
         hugepool.find_every(script, asked, denials=Whole(0), kills=Whole(0), states=Whole(1))
 
 
-# with states without end, no schedule of this script is found in minutes
-ENDLESS = f"hugepool.find_every(open({str(EXAMPLES / '64-backends-one-segment.script')!r}).read(), 'answer 1:9=segv', states=90_000_000)"
+# each takes more than a minute: no call of this script ends so, and of this trace no event can go
+ENDLESS = {
+    "find": "hugepool.find(script, 'answer 1:9=segv', limit=(1 << 32) - 1)",
+    "find_every": "hugepool.find_every(script, 'answer 1:9=segv', states=90_000_000)",
+    "minimize": "hugepool.minimize(trace, 'final free=0')",
+}
 
 
-def test_an_interrupt_ends_a_search():
-    code = f"import hugepool; print('begun', flush=True); {ENDLESS}"
+@pytest.mark.parametrize("search", ENDLESS)
+def test_an_interrupt_ends_a_search(search):
+    script = f"script = open({str(EXAMPLES / '64-backends-one-segment.script')!r}).read()"
+    trace = "trace = hugepool.format('pool 2000 1 16 1\\nbegin 1 alloc 0 0 2000\\nstep 1 until ended\\n')"
+    code = f"import hugepool; {script}; {trace}; print('begun', flush=True); {ENDLESS[search]}"
     how = {"cwd": Path(__file__).parent, "stdout": subprocess.PIPE, "stderr": subprocess.PIPE}
     with subprocess.Popen([sys.executable, "-c", code], **how) as ran:
         try:
