@@ -26,13 +26,15 @@ use Rattle.hp_search.specs.declared.endings.EndingRow.{EndingRow}
 -- ---- what the layers say of their limits
 
 pub whole_within : {S K : Type 0} (eq : K → K → Bool) (key_of : S → K) (turn : S → S → Type 0) (bytes_of : S → ℕ) (first : S)
-    (limits : Limits) (table : EndingTable S) (counts : RunCounts S) → table ≡ Whole counts → AreCutAtLimits eq key_of turn bytes_of first limits table
+    (limits : Limits) (table : EndingTable S) (counts : RunCounts S) → table ≡ Whole counts
+    → AreCutAtLimits eq key_of turn bytes_of first limits table
     → (n : ℕ) (s : S) → limits.turns ≤ n → IsReached turn first n s → ⊥
 unfolding AreCutAtLimits
 whole_within eq key_of turn bytes_of first limits table counts is h = subst (AreCutAtLimits eq key_of turn bytes_of first limits) is h
 
 pub cut_within : {S K : Type 0} (eq : K → K → Bool) (key_of : S → K) (turn : S → S → Type 0) (bytes_of : S → ℕ) (first : S)
-    (limits : Limits) (table : EndingTable S) (counts : RunCounts S) (n : ℕ) → table ≡ Cut counts n → AreCutAtLimits eq key_of turn bytes_of first limits table
+    (limits : Limits) (table : EndingTable S) (counts : RunCounts S) (n : ℕ) → table ≡ Cut counts n
+    → AreCutAtLimits eq key_of turn bytes_of first limits table
     → ((n ≡ limits.turns) × IsLong turn first n) ⊎ IsCrowded eq key_of turn first limits.states n
     ⊎ IsHeavy eq key_of turn bytes_of first limits.bytes n
 unfolding AreCutAtLimits

@@ -22,7 +22,8 @@ loop-place-init g c =
     record {
       valid = none_valid (g.M.Turns.valid m) c.no_counts.result.states.items c.no_counts.ensures.states;
       long = ap (λ (l : List ℕ). length l) c.no_counts.ensures.ways ∙ sym (ap (λ (l : List _). length l) c.no_counts.ensures.states);
-      indexed = none_indexed eq (λ s k. g.M.Turns.key_of m s ≡ k) (get eq c.new-places.result) c.no_counts.result.states.items none c.no_counts.ensures.states;
+      indexed = none_indexed eq (λ s k. g.M.Turns.key_of m s ≡ k) (get eq c.new-places.result) c.no_counts.result.states.items none
+          c.no_counts.ensures.states;
       next = subst (λ (l : List _). AreNext (g.M.Turns.turn m) (g.M.Turns.alike m) [] l) (sym c.no_counts.ensures.states)
           (next_of_none (g.M.Turns.turn m) (g.M.Turns.alike m));
       moves = no_moves (g.M.Ends.step m) (g.M.Turns.key_of m) (get eq c.new-places.result) c.no_counts.result.ways.items c.no_counts.ensures.ways;
@@ -158,8 +159,8 @@ returns-then-exceeds-clause-none g c =
     (ends_so.are_named m) state c.in_ok-after.after.items (good.itself state own) each in
     let keys = indexed_keys eq key_of laws.symm (get eq c.add_each.new.places) next
     (have_one_place eq c.add_each.new.places.entries laws.congr) c.in_ok-add_each.ensures.indexed in
-    lacks eq key_of turn (g.M.Turns.bytes_of m) states next (map key_of next) c.args.room.states c.args.room.bytes c.len-many.result c.add_each.new.next.bytes
-    keys.counted keys.stand c.in_ok-add_each.ensures.bytes (grind (arith, common_steps, c.len-many.ensures))
+    lacks eq key_of turn (g.M.Turns.bytes_of m) states next (map key_of next) c.args.room.states c.args.room.bytes c.len-many.result
+    c.add_each.new.next.bytes keys.counted keys.stand c.in_ok-add_each.ensures.bytes (grind (arith, common_steps, c.len-many.ensures))
     (c.exceeds.ensures.0 c.if-exceeds.true)
     (λ t. after_one turn alike states c.loop-place.next.counts.states.items c.in_ok-after.after.items next k state t there c.loop-place.invariant.next
     after c.in_ok-add_each.ensures.added)

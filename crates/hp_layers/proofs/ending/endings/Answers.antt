@@ -1,4 +1,4 @@
-use Rattle.std.proofs.Common.{arith, ◌≡◌, ◌∙◌, sym, ap, ◌++◌, ◌∷◌, [], ℕ, suc, ◌+◌, ◌<◌, ◌≤◌, inl, inr, refl, subst, List, length}
+use Rattle.std.proofs.Common.{arith, ◌≡◌, ◌∙◌, sym, ap, ◌∷◌, [], ℕ, suc, ◌+◌, ◌<◌, ◌≤◌, inl, inr, refl, subst, List, length}
 use Rattle.std.specs.Prelude.{None, Some}
 use Rattle.std.specs.HashMap.{get}
 use Rattle.std.specs.Map.{lookup}
@@ -130,7 +130,8 @@ returns-in_default g c =
           (ends_so.ends_alike m) n before after c.loop-turns.layer.counts c.loop-turns.counts c.take_counts.new.table was.even was.spread
           took.ways took.indexed was.told took.long;
       cut = inr (over g.M.Key.PartialEq.eq (g.M.Turns.key_of m) turn alike (g.M.Turns.bytes_of m) c.args.first c.args.limits
-          room.states room.bytes n c.loop-turns.layer.bytes was.keys.0 states was.keys.1 was.layer was.bytes lacks wide c.room_behind-room.ensures.bytes);
+          room.states room.bytes n c.loop-turns.layer.bytes was.keys.0 states was.keys.1 was.layer was.bytes lacks wide
+          c.room_behind-room.ensures.bytes);
     }
 
 pub loop-turns-preserved : goal.loop-turns-preserved

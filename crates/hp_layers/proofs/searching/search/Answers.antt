@@ -1,6 +1,7 @@
-use Rattle.std.proofs.Common.{arith, ◌≡◌, ◌∙◌, sym, ◌++◌, ◌∷◌, ◌⊎◌, [], ℕ, suc, ◌+◌, ◌<◌, ◌≤◌, inl, inr, refl, subst, List, length}
+use Rattle.std.proofs.Common.{arith, ◌≡◌, sym, ◌∷◌, ◌⊎◌, [], ℕ, suc, ◌+◌, ◌<◌, ◌≤◌, inl, inr, refl, subst, List, length}
 use Rattle.std.proofs.lemmas.List.{nil_from_length}
-use Rattle.hp_layers.specs.Layers.{AreKeysOf, AreNext, AreValid, IsCutAtLimits, IsLayer, IsLong, IsRight, LacksBytes, LacksRoom, MeetsAt, NoneBefore, NoneIsMet}
+use Rattle.hp_layers.specs.Layers.{AreKeysOf, AreNext, AreValid, IsCutAtLimits, IsLayer, IsLong, IsRight}
+use Rattle.hp_layers.specs.Layers.{LacksBytes, LacksRoom, MeetsAt, NoneBefore, NoneIsMet}
 use Rattle.hp_layers.proofs.Bytes.{over}
 use Rattle.hp_layers.proofs.Covering.{first_keys}
 use Rattle.hp_layers.proofs.Layering.{first_layer, layer_misses, layer_valid, long_first, long_next, never, next_is_layer}
@@ -80,7 +81,8 @@ returns-in_default-2 g c =
           room.states room.bytes c.loop-turns.turns c.loop-turns.layer.bytes c.loop-turns.invariant.2.0 c.loop-turns.layer.states.items
           c.loop-turns.invariant.2.1 c.loop-turns.invariant.0 c.loop-turns.invariant.4
           (subst (λ (l : List _). LacksRoom g.M.Key.PartialEq.eq key_of turn l room.states
-          ⊎ LacksBytes g.M.Key.PartialEq.eq key_of turn bytes_of l room.bytes) c.deref-in-loop-turns.ensures.value more) wide c.room_behind-room.ensures.bytes);
+          ⊎ LacksBytes g.M.Key.PartialEq.eq key_of turn bytes_of l room.bytes) c.deref-in-loop-turns.ensures.value more) wide
+          c.room_behind-room.ensures.bytes);
     }
 
 pub loop-turns-preserved : goal.loop-turns-preserved
