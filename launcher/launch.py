@@ -98,8 +98,9 @@ def prove_one(folder: str, jobs: str) -> int:
     """What `rt lib` does, without its locks."""
     os.chdir(folder)
     rt = load()
-    # (copies of a repository on one machine share what they have proved)
-    rt.share_work(True)
+    # (copies of a repository on one machine share what they have proved; kits before 13f can't)
+    if hasattr(rt, "share_work"):
+        rt.share_work(True)
     crate = rt.rtlib.Crate(folder, rt.rtlib.root_above(folder), {})
     return crate.build_rlib(["--jobs", jobs], anew=False)
 
