@@ -6,11 +6,11 @@ usage: ./check mutants [CRATE ..] [--all]
 Of crates that are named it tries all mutants. Without a name it tries those of each crate of which a commit since the time in
 gate/tried.txt changed more than comments in src/, specs/, edits/, must-fail/ or must-not-compile/, or that has any change there
 uncommitted. With --all it tries all. Where all of a crate are refused, and none of its files is changed, the time at which the trial
-began stands in that file then: first that of all, and behind it those of crates that were tried later.
+began stands in that file then: first that of all crates, and behind it those of crates that were tried later, as long as any is due.
 
 The mutants of a crate stand in its folders must-fail/ (those that the toolchain's gate tries too), edits/ and must-not-compile/
-(those that the compiler refuses, with the error that they name). The toolchain tries each in its function's place (`rt must-fail`), in a
-copy of the crates.
+(those that the compiler refuses, with the error that they name). The toolchain tries each in its function's place (`rt must-fail`), in
+copies of the crates, side by side.
 
 Reported as faults: a mutant that is still proved; one that no longer applies, or that the prover can't read; one that is refused only
 because a proof names what the mutant removed.
@@ -25,12 +25,14 @@ import subprocess
 import sys
 import tempfile
 import time
+from concurrent.futures import ThreadPoolExecutor
 from datetime import datetime, timezone
 from itertools import product
 from pathlib import Path
 from typing import Callable, Iterable, NamedTuple
 
 from programs import TOP, below, crates_of
+import launch  # (of the launcher, which programs makes known)
 
 PARTS = ("src", "specs", "proofs")
 NOT_COMPILED = "must-not-compile"
@@ -40,9 +42,12 @@ OWN = re.compile(r"crates/(\w+)/(?:src|specs|edits|must-fail|must-not-compile)/"
 # a changed line that may change what the prover answers: no comment alone
 SAYS = "^ *([^ /-]|/[^/]|-[^-])"
 TRIED = TOP / "gate" / "tried.txt"
+START = time.monotonic()
 # what the toolchain says of a mutant that it tried, and how it begins where the mutant is refused for its own sake
 TOLD = re.compile(r"^rt: must-fail (\w+)/([\w.-]+)\.edit: (.*)$", re.M)
 REFUSED, BY_A_NAME = "refused, as it must be", "only because a proof file names"
+# so many of a crate, at least, are tried one after another: the first of them costs a check of the whole crate
+PART = 16
 
 
 class Mutant(NamedTuple):
@@ -120,18 +125,17 @@ def bring(source: Path, to: Path, copy: Callable[[str, str], object] = shutil.co
         shutil.copytree(source, to, copy_function=copy, dirs_exist_ok=True)
 
 
-def copy_crates(names: list[str], top: Path) -> None:
-    """Copies these crates and those below them, with what was proved of them, for the toolchain."""
+def copy_crate(name: str, top: Path) -> Path:
+    """Copies this crate and those below it, with what was proved of them, for the toolchain, and returns its folder."""
     crates = crates_of(TOP)
-    every = {*names, *(low for it in names for low in below(it, crates))}
+    every = {name, *below(name, crates)}
     (top / "crates.txt").write_text("".join(f"{it}: {' '.join(crates[it])}\n" for it in crates if it in every), encoding="utf-8")
     shutil.copyfile(TOP / "HANDLES", top / "HANDLES")
     for it, part in product(every, PARTS):
         bring(TOP / "crates" / it / part, top / "crates" / it / part)
     for it in every:
         bring(TOP / "crates" / it / "out" / "rlib", top / "crates" / it / "out" / "rlib", link_or_copy)
-    for it in names:
-        bring(TOP / "crates" / it / "out" / "incremental", top / "crates" / it / "out" / "incremental")
+    return top / "crates" / name
 
 
 def run(words: list[str], folder: Path) -> str:
@@ -151,23 +155,31 @@ def try_to_compile(mutant: Mutant, folder: Path) -> str | None:
     return None if mutant.error in codes else f"NOT REFUSED BY error[{mutant.error}], but by {', '.join(codes) or 'none'}"
 
 
-def try_crate(name: str, top: Path) -> tuple[int, dict[str, str]]:
-    """Tries a crate's mutants, and returns how many there are, and what is wrong with which."""
-    mutants, wrong = mutants_of(TOP / "crates" / name)
-    folder = top / "crates" / name
-    (folder / "must-fail").mkdir()
-    for it in mutants:
-        if not it.error:
-            shutil.copyfile(it.file, folder / "must-fail" / it.file.name)
-    said = run(["rt", "must-fail", name], top)
-    told = {edit: answer for of, edit, answer in TOLD.findall(said) if of == name}
-    for it in mutants:
-        answer = told.get(it.file.stem, f"NOT TOLD: rt must-fail says nothing of it, but {said.strip()[-200:]!r}")
-        if it.error:
-            wrong |= {it.file.stem: fault} if (fault := try_to_compile(it, folder)) else {}
-        elif not answer.startswith(REFUSED) or BY_A_NAME in answer:
-            wrong[it.file.stem] = f"NOT REFUSED FOR ITSELF: {answer}"
-    return len(mutants), wrong
+def try_part(mutants: list[Mutant], room: str) -> dict[str, str]:
+    """Tries mutants of one crate in a copy of it, one after another, and returns what is wrong with which."""
+    wrong, name = {}, mutants[0].crate.name
+    with tempfile.TemporaryDirectory(dir=room) as top:
+        folder = copy_crate(name, Path(top))
+        (folder / "must-fail").mkdir()
+        for it in mutants:
+            if not it.error:
+                shutil.copyfile(it.file, folder / "must-fail" / it.file.name)
+        said = run(["rt", "must-fail", name], Path(top))
+        told = {edit: answer for of, edit, answer in TOLD.findall(said) if of == name}
+        for it in mutants:
+            answer = told.get(it.file.stem, f"NOT TOLD: rt must-fail says nothing of it, but {said.strip()[-200:]!r}")
+            if it.error:
+                wrong |= {it.file.stem: fault} if (fault := try_to_compile(it, folder)) else {}
+            elif not answer.startswith(REFUSED) or BY_A_NAME in answer:
+                wrong[it.file.stem] = f"NOT REFUSED FOR ITSELF: {answer}"
+    return wrong
+
+
+def lanes(names: list[str]) -> int:
+    """How many parts are tried at once: one a processor, if the memory holds so many checks of the largest of these crates."""
+    rt, known = launch.load(), launch.weights()
+    largest = max((known[it][1] for it in names if it in known), default=0.0) or 4096.0 * launch.MIB
+    return max(1, min(rt.processors(), int(launch.SHARE * rt.free() / largest)))
 
 
 def build_libraries(names: Iterable[str]) -> bool:
@@ -207,34 +219,41 @@ def due(top: Path, tried: str, every: set[str]) -> set[str]:
     return changed & every
 
 
-def note_tried(names: Iterable[str], began: datetime, is_all: bool) -> None:
-    """Notes that the mutants of these crates were refused by what is committed."""
+def note_tried(names: Iterable[str], began: datetime) -> None:
+    """Notes that the mutants of these crates were refused by what is committed. Where none is due any more, one time says so."""
     since, own = times_of(TRIED.read_text(encoding="utf-8"))
     dirty = {made[1] for made in OWN.finditer(git(TOP, "status", "--porcelain", "--untracked-files=all", "--", "crates"))}
-    since, own = (began, {}) if is_all and not dirty else (since, own | {it: began for it in names if it not in dirty})
-    lines = [since.isoformat(timespec="seconds"), *(f"{name} {time.isoformat(timespec='seconds')}" for name, time in sorted(own.items()))]
-    TRIED.write_text("".join(f"{line}\n" for line in lines), encoding="utf-8")
+    own |= {it: began for it in names if it not in dirty}
+    text = "\n".join([since.isoformat(timespec="seconds"), *(f"{name} {own[name].isoformat(timespec='seconds')}" for name in sorted(own)), ""])
+    is_due = due(TOP, text, {*crates_of(TOP)})
+    TRIED.write_text(text if is_due else f"{began.isoformat(timespec='seconds')}\n", encoding="utf-8")
 
 
-def try_all(picked: list[str], is_all: bool) -> int:
+def try_all(picked: list[str]) -> int:
     """Tries the mutants of these crates, and returns the status."""
     refused, faults, began = 0, [], datetime.now(timezone.utc)
     if not build_libraries(picked):
         print("check: the libraries below these crates aren't proved, so no mutant was tried")
         return 1
-    with tempfile.TemporaryDirectory(prefix="mutants-") as room:
-        copy_crates(picked, Path(room))
-        for name in picked:
-            begun = time.monotonic()
-            number, wrong = try_crate(name, Path(room))
+    every, side_by_side = {it: mutants_of(TOP / "crates" / it) for it in picked}, lanes(picked)
+    most = max(PART, sum(len(found) for found, _ in every.values()) // side_by_side)
+    with tempfile.TemporaryDirectory(prefix="mutants-") as room, ThreadPoolExecutor(side_by_side) as pool:
+        # (the crates with the most mutants come first)
+        begun = {
+            name: [pool.submit(try_part, found[at : at + most], room) for at in range(0, len(found), most)]
+            for name, (found, _) in sorted(every.items(), key=lambda it: -len(it[1][0]))
+        }
+        for name, parts in begun.items():
+            found, wrong = every[name]
+            for it in parts:
+                wrong |= it.result()
             lines = [f"  {name}/{it}: {why}" for it, why in wrong.items()]
-            told = f"{name}: {number - len(wrong)} of {number} mutants refused, in {time.monotonic() - begun:.0f} s"
+            told = f"{name}: {len(found) - len(wrong)} of {len(found)} mutants refused, after {time.monotonic() - START:.0f} s"
             print("\n".join([told, *lines]), flush=True)
-            refused, faults = refused + number - len(wrong), faults + lines
-            note_tried([] if wrong or is_all else [name], began, False)
+            refused, faults = refused + len(found) - len(wrong), faults + lines
+            note_tried([] if wrong else [name], began)
     # (once more, since the lines of other crates may stand behind them)
     print("\n".join([*faults, f"mutants: {refused} passed, {len(faults)} failed"]))
-    note_tried([], began, is_all and not faults)
     return 1 if faults else 0
 
 
@@ -256,7 +275,7 @@ def main() -> int:
     picked = picked if given.all or given.crates else due(TOP, TRIED.read_text(encoding="utf-8"), {*numbers})
     few = sum(numbers[it] for it in picked)
     print(f"mutants: {few} of {sum(numbers.values())} are due, in {len(picked)} crates: {' '.join(sorted(picked))}", flush=True)
-    return try_all(sorted(picked), given.all) if picked else 0
+    return try_all(sorted(picked)) if picked else 0
 
 
 if __name__ == "__main__":
