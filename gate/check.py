@@ -34,7 +34,8 @@ from typing import Callable, NamedTuple
 
 import programs
 from programs import TOP, is_current, program_of
-from building import Line  # (of the launcher, which programs makes known)
+import launch  # (of the launcher, which programs makes known, as the next)
+from building import Line
 
 
 class Script(NamedTuple):
@@ -197,7 +198,7 @@ def mutants(gate: Gate, words: list[str]) -> bool:
 def library(gate: Gate) -> bool:
     """Has the library for C proved and built, over libraries that are proved side by side."""
     built = gate.run(command("launcher/launch.py libraries hp_c"), "the libraries below hp_c", True)
-    return built and gate.run(["env", f"--chdir={TOP / 'crates' / 'hp_c'}", "rt", "lib"], "the library for C")
+    return built and gate.run(["env", f"--chdir={TOP / 'crates' / 'hp_c'}", *launch.RT, "lib"], "the library for C")
 
 
 def everything(gate: Gate, _: list[str]) -> bool:

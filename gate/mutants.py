@@ -149,7 +149,7 @@ def try_to_compile(mutant: Mutant, folder: Path) -> str | None:
     texts = mutant.texts()
     for path, text in texts.items():
         (folder / path).write_text(text, encoding="utf-8")
-    codes = re.findall(r"^\S+:\d+:\d+: error\[([\w-]+)\]: ", run(["rt", "check", "--only", ""], folder), re.M)
+    codes = re.findall(r"^\S+:\d+:\d+: error\[([\w-]+)\]: ", run([*launch.RT, "check", "--only", ""], folder), re.M)
     for path in texts:
         shutil.copyfile(mutant.crate / path, folder / path)
     return None if mutant.error in codes else f"NOT REFUSED BY error[{mutant.error}], but by {', '.join(codes) or 'none'}"
@@ -164,7 +164,7 @@ def try_part(mutants: list[Mutant], room: str) -> dict[str, str]:
         for it in mutants:
             if not it.error:
                 shutil.copyfile(it.file, folder / "must-fail" / it.file.name)
-        said = run(["rt", "must-fail", name], Path(top))
+        said = run([*launch.RT, "must-fail", name], Path(top))
         told = {edit: answer for of, edit, answer in TOLD.findall(said) if of == name}
         for it in mutants:
             answer = told.get(it.file.stem, f"NOT TOLD: rt must-fail says nothing of it, but {said.strip()[-200:]!r}")

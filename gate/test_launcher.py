@@ -37,6 +37,8 @@ class Crate:
         return [self.at(it) for it in dict.fromkeys(names)]
     def at(self, name):
         return Crate(str(self.top / "crates" / name), self.top, {})
+    def stamp(self):
+        return self.name
     def is_built(self):
         return Path(self.folder, "built").exists()
     def planned(self):
@@ -72,8 +74,9 @@ rtlib = SimpleNamespace(Crate=Crate, lock=lambda crates: [], root_above=lambda f
 share_work = lambda is_alone: None
 processors = lambda: 3
 free = lambda: int(said(Path(__file__).parents[1] / "free") or 10**12)
-if __name__ == "__main__":
-    top, crate, verb = Path("../..").resolve(), Path.cwd().name, sys.argv[1]
+def main(words):
+    global top
+    top, crate, verb = Path("../..").resolve(), Path.cwd().name, words[0]
     with open(top / verb, "a") as calls:
         print("x", file=calls)
     by = f"{crate} {verb} {len(said(top / verb).split())}"
@@ -94,6 +97,9 @@ if __name__ == "__main__":
             # (a program runs once the launcher has linked it, which may take long on a busy machine)
             while program.stat().st_nlink == 1:
                 time.sleep(0.05)
+
+if __name__ == "__main__":
+    main(sys.argv[1:])
 """
 WORDS = ("a", "b")
 CRATES = {"a": [], "a_tests": ["a"], "hugepool": ["a"], "replay": []}

@@ -5,6 +5,7 @@ usage: launch.py unproved CRATE MOMENT SOURCES [WORD ..]    what ./hugepool does
        launch.py proved CRATE MOMENT SOURCES WORD ..        what ./hugepool build does
        launch.py libraries CRATE ..                         proves and builds the libraries that these crates stand on
        launch.py one FOLDER JOBS                            proves and builds one library, over libraries that are built
+       launch.py rt WORD ..                                 what `rt` does, sooner
 
 `rt try` compiles a program without proof, with checks at run time, runs it once and removes it. While the program runs, it lies in a
 folder below TMPDIR. A hard link to it, taken then, keeps it as out/unproved. The name of that file is not documented.
@@ -37,6 +38,7 @@ SECONDS = {"replay": 25, "hugepool": 80}
 # what the program reads while it is looked for: a trace that it works on for a moment
 TRACE = b"pool 1 1 1 1\n" + 20_000 * b"step 1\n"
 PAUSE = 0.02
+RT = [sys.executable, __file__, "rt"]
 # what each crate's first proof takes: processor seconds, and MiB of its largest process. A build notes it in the second file, which
 # goes before the first.
 WEIGHTS = Path(__file__).with_name("weights.txt"), TOP / "out" / "weights.txt"
@@ -85,12 +87,35 @@ def compile_unproved(crate: str, program: Path, room: Path) -> None:
     (room / "new").replace(program)
 
 
+def once_a_call(method: Callable) -> Callable:
+    """A method of a crate that asks those below it: while it is called from outside, each of them is asked once. The toolchain asks again on
+    each path that leads there, some 28,000 times below the program, and reads all files each time."""
+    known, depth = {}, 0
+
+    def asked(crate: object) -> object:
+        nonlocal depth
+        if crate.folder not in known:
+            depth += 1
+            try:
+                known[crate.folder] = method(crate)
+            finally:
+                depth -= 1
+        found = known[crate.folder]
+        if not depth:
+            known.clear()
+        return found
+
+    return asked
+
+
 def load() -> ModuleType:
     """The module behind the command `rt`. Loading it does nothing else."""
     loader = SourceFileLoader("rt_command", os.path.realpath(shutil.which("rt") or "rt"))
     module = module_from_spec(spec_from_loader("rt_command", loader))
     sys.dont_write_bytecode = True
     loader.exec_module(module)
+    crate = module.rtlib.Crate
+    crate.stamp, crate.below = once_a_call(crate.stamp), once_a_call(crate.below)
     return module
 
 
@@ -159,7 +184,7 @@ def prove_program(crate: str, logs: Path) -> None:
     proving = prove_libraries([crate], logs, crate)
     program = proving.left.pop()
     jobs = proving.jobs_that_fit(program, proving.processors)
-    proving.follow(begin(["rt", "run", "--jobs", str(jobs), "--", "--help"], program, jobs, logs))
+    proving.follow(begin([*RT, "run", "--jobs", str(jobs), "--", "--help"], program, jobs, logs))
     prove(proving)
 
 
@@ -192,6 +217,8 @@ def build(kind: str, crate: str, moment: str, sources: str, *words: str) -> None
 def main(words: list[str]) -> int:
     if words[0] == "one":
         return prove_one(*words[1:])
+    if words[0] == "rt":
+        return load().main(words[1:])
     SIGNALS.catch()
     try:
         if words[0] == "libraries":

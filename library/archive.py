@@ -19,6 +19,7 @@ CRATE = TOP / "crates" / "hp_c"
 ARCHIVE = CRATE / "out" / "libhp_c.a"
 sys.path.insert(0, str(TOP / "launcher"))
 from building import Line  # noqa: E402
+from launch import RT  # noqa: E402
 
 # lines of the toolchain's that say how far it is
 FAR = ("so far: ", "rt: ", "crate ")
@@ -39,7 +40,7 @@ def prove(name: str) -> str:
     printed: list[str] = []
     line, began = Line(name), time.monotonic()
     how = {"stdin": subprocess.DEVNULL, "stdout": subprocess.PIPE, "stderr": subprocess.STDOUT, "text": True, "errors": "replace"}
-    with subprocess.Popen(["rt", "lib"], cwd=CRATE, **how) as ran:
+    with subprocess.Popen([*RT, "lib"], cwd=CRATE, **how) as ran:
         reader = threading.Thread(target=lambda: printed.extend(iter(ran.stdout.readline, "")))
         reader.start()
         while ran.poll() is None:
