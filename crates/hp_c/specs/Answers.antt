@@ -72,6 +72,11 @@ IsEventRefused held named code =
 
 -- ---- what an event would come to
 
+-- what an event would come to, if the numbers name one
+abbrev pub SeenAhead : CoreState → (named : Option Event) → Option (Option Outcome) → Type 0
+SeenAhead core named None = named ≡ None
+SeenAhead core named (Some seen) = (event : Event) × (named ≡ Some event) × HeldBack core event seen
+
 -- the numbers of an outcome, where there is one
 abbrev pub words_or : OutcomeWords → Option Outcome → OutcomeWords
 words_or words None = words

@@ -85,6 +85,10 @@ pub record TellsAcquired (s : CoreState) (task : ℕ) (w : AcquiredWords) : Type
 abbrev pub IsClosed : (held : Option CoreState) → (code : ℕ) → Type 0
 IsClosed held code = (code ≡ is_closed) × (held ≡ None)
 
+-- nothing was read, since the pool is closed, or there is no such thing
+abbrev pub IsUntold : {W : Type 0} → (read : Option (Option W)) → (code : ℕ) → Type 0
+IsUntold read code = (code ≡ is_closed) × (read ≡ None) ⊎ (code ≡ no_such) × (read ≡ Some None)
+
 -- the pool is closed, or has no such file
 abbrev pub IsFileRefused : (held : Option CoreState) → (file code : ℕ) → Type 0
 IsFileRefused held file code = IsClosed held code ⊎ (code ≡ no_such) × IsSomeAnd held (λ core. (config_of core).files ≤ file)

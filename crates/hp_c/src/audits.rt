@@ -46,16 +46,12 @@ pub extern "C" fn hugepool_audit(alloc: Global, pool: &mut Handle, finding: &mut
     ensures nothing { Answered result (finding.new ≡ 0) (finding.new ≡ finding.old) }
     ensures code { Answered result ⊤ (IsAuditRefused (held pool.old) result) }
 {
-    let Some(core) = pool.take(alloc) else {
-        return IS_CLOSED;
-    };
-    let seen = found(alloc, &core);
-    *pool = Handle::open(core);
-    match seen {
-        Ok(number) => {
+    match pool.read(alloc, |core| found(alloc, core)) {
+        None => IS_CLOSED,
+        Some(Err(code)) => code,
+        Some(Ok(number)) => {
             *finding = number;
             OK
         }
-        Err(code) => code,
     }
 }

@@ -4,13 +4,14 @@ ghost use Rattle.hp_core.specs.State.{CoreState};
 ghost use Rattle.hp_core.specs.HeldBack.{HeldBack};
 ghost use Rattle.hp_words.specs.Words.{event_named, outcome_words};
 ghost use Rattle.hp_handle.specs.Held.{held};
-ghost use Rattle.hp_c.specs.Answers.{Answered, Happened, IsEventRefused, IsLookRefused, LooksAhead};
+ghost use Rattle.hp_c.specs.Answers.{Answered, Happened, IsEventRefused, IsLookRefused, LooksAhead, SeenAhead};
 ghost use Rattle.hp_c.specs.Runs.{Ran, RanOn, IsRunRefused};
 
 use crate::codes::{IS_CLOSED, NO_MEMORY, NO_SUCH, OK, TOO_SMALL};
 use hp_base::{Answer, Event, Op};
 use hp_core::Core;
 use hp_handle::Handle;
+use hp_machine::Outcome;
 use hp_replay::next_outcome;
 use hp_words::{EventWords, OutcomeWords};
 use std::alloc::Global;
@@ -113,6 +114,16 @@ pub extern "C" fn hugepool_events(
     code
 }
 
+/// What the event would come to, where it would change nothing. Of numbers that name no event there is nothing to say.
+fn look_ahead(core: &Core, event: &EventWords) -> Option<Option<Outcome>>
+    ensures { SeenAhead core.now (event_named event.now) result }
+{
+    match event.event() {
+        Some(event) => Some(core.held_back(event)),
+        None => None,
+    }
+}
+
 /// Looks whether the event would change nothing: whether it would be refused, or its step is blocked. `is_held_back` tells, and then
 /// `outcome` what would come of it. The pool is as it was.
 #[unsafe(no_mangle)]
@@ -131,15 +142,12 @@ pub extern "C" fn hugepool_held_back(
 {
     // The checker of borrows asks for a mention of the types that an event and an outcome may hold.
     let _none: (Option<Answer>, Option<Op>) = (None, None);
-    let Some(core) = pool.take(alloc) else {
+    let Some(read) = pool.read(alloc, |core| look_ahead(core, event)) else {
         return IS_CLOSED;
     };
-    let Some(event) = event.event() else {
-        *pool = Handle::open(core);
+    let Some(seen) = read else {
         return NO_SUCH;
     };
-    let seen = core.held_back(event);
-    *pool = Handle::open(core);
     *is_held_back = seen.is_some();
     if let Some(seen) = seen {
         *outcome = OutcomeWords::of(seen);

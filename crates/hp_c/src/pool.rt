@@ -68,18 +68,14 @@ pub extern "C" fn hugepool_copy(alloc: Global, pool: &mut Handle, copy: &mut Han
     ensures copied { Answered result (Copied (held pool.old) (held copy.new)) (held copy.new ≡ held copy.old) }
     ensures code { Answered result ⊤ (IsCopyRefused (held pool.old) result) }
 {
-    let Some(core) = pool.take(alloc) else {
-        return IS_CLOSED;
-    };
-    let copied = boxed_copy(alloc, &core);
-    *pool = Handle::open(core);
-    match copied {
-        Ok(copied) => {
+    match pool.read(alloc, |core| boxed_copy(alloc, core)) {
+        None => IS_CLOSED,
+        Some(Err(code)) => code,
+        Some(Ok(copied)) => {
             let _before = copy.take(alloc);
             *copy = Handle::open(copied);
             OK
         }
-        Err(code) => code,
     }
 }
 

@@ -5,7 +5,7 @@ ghost use Rattle.hp_core.specs.Readers.{config_of, translation_of};
 ghost use Rattle.hp_handle.specs.Held.{held};
 ghost use Rattle.hp_c.specs.Answers.{Answered};
 ghost use Rattle.hp_c.specs.Numbers.{TellsPool, TellsFile, TellsTask, TellsFrame, acquired_words, flagged, is_task, phase_or_none};
-ghost use Rattle.hp_c.specs.Numbers.{IsClosed, IsFileRefused, IsTaskRefused, TellsAcquired};
+ghost use Rattle.hp_c.specs.Numbers.{IsClosed, IsFileRefused, IsTaskRefused, IsUntold, TellsAcquired};
 
 use crate::codes::{IS_CLOSED, NO_SUCH, OK};
 use hp_base::{File, Frame, Task, Vpn};
@@ -218,6 +218,21 @@ fn frame_number(frame: Option<Frame>) -> Option<u32>
     }
 }
 
+/// Tells what was read of an open pool. Where nothing was, `words` stay as they were.
+fn tell<W: Copy>(read: Option<Option<W>>, words: &mut W) -> u32
+    ensures told { Answered result (read ≡ Some (Some words.new)) (words.new ≡ words.old) }
+    ensures code { Answered result ⊤ (IsUntold read result) }
+{
+    match read {
+        None => IS_CLOSED,
+        Some(None) => NO_SUCH,
+        Some(Some(read)) => {
+            *words = read;
+            OK
+        }
+    }
+}
+
 /// The numbers of the pool. The pool is as it was.
 #[unsafe(no_mangle)]
 pub extern "C" fn hugepool_pool_numbers(
@@ -229,12 +244,7 @@ pub extern "C" fn hugepool_pool_numbers(
     ensures told { Answered result (IsSomeAnd (held pool.old) (λ core. TellsPool core numbers.new)) (numbers.new ≡ numbers.old) }
     ensures code { Answered result ⊤ (IsClosed (held pool.old) result) }
 {
-    let Some(core) = pool.take(alloc) else {
-        return IS_CLOSED;
-    };
-    *numbers = pool_words(&core);
-    *pool = Handle::open(core);
-    OK
+    tell(pool.read(alloc, |core| Some(pool_words(core))), numbers)
 }
 
 /// The numbers of the file. The pool is as it was.
@@ -250,18 +260,7 @@ pub extern "C" fn hugepool_file_numbers(
         (numbers.new ≡ numbers.old) }
     ensures code { Answered result ⊤ (IsFileRefused (held pool.old) file result) }
 {
-    let Some(core) = pool.take(alloc) else {
-        return IS_CLOSED;
-    };
-    let words = file_words(&core, file);
-    *pool = Handle::open(core);
-    match words {
-        Some(words) => {
-            *numbers = words;
-            OK
-        }
-        None => NO_SUCH,
-    }
+    tell(pool.read(alloc, |core| file_words(core, file)), numbers)
 }
 
 /// The numbers of the task, and whom it waits for. The pool is as it was.
@@ -277,18 +276,7 @@ pub extern "C" fn hugepool_task_numbers(
         (numbers.new ≡ numbers.old) }
     ensures code { Answered result ⊤ (IsTaskRefused (held pool.old) task result) }
 {
-    let Some(core) = pool.take(alloc) else {
-        return IS_CLOSED;
-    };
-    let words = task_words(&core, task);
-    *pool = Handle::open(core);
-    match words {
-        Some(words) => {
-            *numbers = words;
-            OK
-        }
-        None => NO_SUCH,
-    }
+    tell(pool.read(alloc, |core| task_words(core, task)), numbers)
 }
 
 /// What the next step of the task's call has to take. The pool is as it was.
@@ -304,18 +292,7 @@ pub extern "C" fn hugepool_acquires(
         (acquired.new ≡ acquired.old) }
     ensures code { Answered result ⊤ (IsTaskRefused (held pool.old) task result) }
 {
-    let Some(core) = pool.take(alloc) else {
-        return IS_CLOSED;
-    };
-    let words = task_acquires(&core, task);
-    *pool = Handle::open(core);
-    match words {
-        Some(words) => {
-            *acquired = words;
-            OK
-        }
-        None => NO_SUCH,
-    }
+    tell(pool.read(alloc, |core| task_acquires(core, task)), acquired)
 }
 
 /// The frame that the task's virtual page is translated to, if it is. The pool is as it was.
@@ -332,16 +309,8 @@ pub extern "C" fn hugepool_translate(
         (translated.new ≡ translated.old) }
     ensures code { Answered result ⊤ (IsTaskRefused (held pool.old) task result) }
 {
-    let Some(core) = pool.take(alloc) else {
-        return IS_CLOSED;
-    };
-    let words = frame_words(&core, task, page);
-    *pool = Handle::open(core);
-    match words {
-        Some(words) => {
-            *translated = words;
-            OK
-        }
-        None => NO_SUCH,
-    }
+    tell(
+        pool.read(alloc, |core| frame_words(core, task, page)),
+        translated,
+    )
 }

@@ -1,7 +1,8 @@
 //! A core goes to C, and comes back.
 ghost use Rattle.std.specs.Prelude.{◌≡◌, Some, None};
+ghost use Rattle.std.specs.Fn.{FnOnceReturnsAt};
 ghost use Rattle.std.specs.Option.{option_map};
-ghost use Rattle.hp_handle.specs.Held.{held};
+ghost use Rattle.hp_handle.specs.Held.{Reads, held};
 
 use crate::handle::Handle;
 use crate::kept_core::KeptCore;
@@ -37,5 +38,19 @@ impl Handle {
     {
         let Handle { core, is_open, .. } = std::mem::replace(self, Handle::closed(alloc));
         if is_open { Some(core.into_box()) } else { None }
+    }
+
+    /// What `read` returns of the core that is kept, if the pool is open. The core stays.
+    pub fn read<W, F: FnOnce(&Core) -> W>(&mut self, alloc: Global, read: F) -> Option<W>
+        requires { F.IsAlwaysCallable read }
+        ensures same { held self.new ≡ held self.old }
+        ensures read { Reads (λ core words. FnOnceReturnsAt F.FnOnce read core words) (held self.old) result }
+    {
+        let Some(core) = self.take(alloc) else {
+            return None;
+        };
+        let words = read(&core);
+        *self = Handle::open(core);
+        Some(words)
     }
 }
