@@ -31,7 +31,7 @@ impl<'a, L: Ledger> Halting<'a, L> {
 
     // Under the lock, so that nobody who found it unset begins to wait behind the call to all who wait.
     fn halt<R: Wait>(&self, rt: &R) {
-        let held = self.shared.room.lock(rt);
+        let held = self.shared.enter(rt);
         self.halted.store(true, Ordering::SeqCst);
         for waking in &self.shared.wakings {
             waking.notify_all();
@@ -61,7 +61,7 @@ impl<'a, L: Ledger> Hold<L> for Halting<'a, L> {
         let task = seat.task();
         let halted = &self.halted;
         let waking = self.shared.waking(task);
-        let mut room = self.shared.room.lock(rt);
+        let mut room = self.shared.enter(rt);
         room.lie_down(task);
         let mut room = waking.wait_while(
             rt,

@@ -23,8 +23,13 @@ use crate::waiting_room::{WaitingRoom, place_of};
 use hp_base::{Config, Event, Task};
 use hp_core::{Outcome, Tally};
 use std::alloc::{AllocError, Global};
+use std::hint::spin_loop;
 use std::sync::ledger::{Blank, Ledger};
-use std::sync::{Condvar, Mutex, Wait};
+use std::sync::{Condvar, Mutex, MutexGuard, Wait};
+
+/// How long a thread that finds the lock held pauses between its looks, before it sleeps. A hold takes about as long as two of these
+/// pauses, and handing the lock over takes longer: so whoever holds it makes many holds while the others pause.
+const PAUSES: [u32; 6] = [4, 16, 64, 128, 128, 128];
 
 /// A pool that many threads use.
 #[derive(Drop)]
@@ -72,7 +77,7 @@ impl<L: Ledger> Hold<L> for Shared<L> {
         seat: &mut Seat<L>,
         event: Event,
     ) -> Result<Outcome, CallFault> {
-        let (held, called) = self.room.lock(rt).hold(seat, event);
+        let (held, called) = self.enter(rt).hold(seat, event);
         self.wake(called);
         match held {
             Ok(outcome) => Ok(outcome),
@@ -84,7 +89,7 @@ impl<L: Ledger> Hold<L> for Shared<L> {
         ensures { WasAwake seat.now.task }
     {
         let task = seat.task();
-        let mut room = self.room.lock(rt);
+        let mut room = self.enter(rt);
         room.lie_down(task);
         let room = self.waking(task).wait_while(
             rt,
@@ -146,6 +151,17 @@ impl<L: Ledger> Shared<L> {
         }
     }
 
+    // Takes the lock, and looks for it some times before it sleeps.
+    pub(crate) fn enter<R: Wait>(&self, rt: &R) -> MutexGuard<'_, WaitingRoom<L>> {
+        for pauses in PAUSES {
+            if let Some(room) = self.room.try_lock() {
+                return room;
+            }
+            pause_for(pauses);
+        }
+        self.room.lock(rt)
+    }
+
     // By what the task is called.
     pub(crate) fn waking(&self, task: Task) -> &Condvar {
         let Some(place) = place_of(task) else {
@@ -200,7 +216,7 @@ impl<L: Ledger> Shared<L> {
     pub fn tally<R: Wait>(&self, rt: &R) -> Tally
         ensures { (core : CoreState) × IsCameTo core × (result ≡ tally_of core) }
     {
-        self.room.lock(rt).pool.tally()
+        self.enter(rt).pool.tally()
     }
 
     /// Cuts the journal, in one hold: see `Pool::cut`. It hands out the entries since the last cut, which interleave the
@@ -216,7 +232,7 @@ impl<L: Ledger> Shared<L> {
         ensures refused { IfErr result (λ fault. MayRefuseCut seats.old fault) }
         ensures err { OnErr result (seats.new ≡ seats.old) }
     {
-        self.room.lock(rt).cut(alloc, seats)
+        self.enter(rt).cut(alloc, seats)
     }
 
     /// Ends the pool, where the seats are all there and their lists make up one run of a pool of this config. It asks first whether
@@ -256,6 +272,12 @@ impl<L: Ledger> Shared<L> {
             Ok(closed) => Ok(closed),
             Err(kept) => Err(reopened(config, wakings, kept)),
         }
+    }
+}
+
+fn pause_for(pauses: u32) {
+    for _ in 0..pauses {
+        spin_loop();
     }
 }
 
