@@ -39,11 +39,11 @@ SECONDS = {"replay": 25, "hugepool": 80}
 TRACE = b"pool 1 1 1 1\n" + 20_000 * b"step 1\n"
 PAUSE = 0.02
 RT = [sys.executable, __file__, "rt"]
-# what each crate's first proof takes: processor seconds, and MiB of its largest process. A build notes it in the second file, which
-# goes before the first.
+# what each crate's first proof takes: processor seconds, and MiB of its largest process (2026-12-01; those near the usual aren't listed).
+# A build notes it in the second file, which goes before the first.
 WEIGHTS = Path(__file__).with_name("weights.txt"), TOP / "out" / "weights.txt"
-# processor seconds of a crate of which nothing is known, and the share of the free memory that is planned on
-UNKNOWN, SHARE = 60.0, 0.85
+# the usual processor seconds of a crate, and the share of the free memory that is planned on
+USUAL, SHARE = 80.0, 0.85
 MIB = 1024 * 1024
 
 
@@ -167,7 +167,7 @@ def prove_libraries(names: list[str], logs: Path, program: str = "") -> Proving:
         top = rt.rtlib.Crate(str(TOP / "crates" / name), str(TOP), {})
         crates |= {it.name: it for it in [*top.below(), *([top] if name == program else [])] if it.name not in crates}
     for it in crates.values():
-        seconds, memory = known.get(it.name, (UNKNOWN, 0.0))
+        seconds, memory = known.get(it.name, (USUAL, 0.0))
         libraries.append(Library(it.name, it.folder, frozenset(low.name for low in it.below()), seconds, memory or it.planned()))
     built = {it.name for it in crates.values() if it.name != program and it.is_built()}
     proving = Proving(with_chains(libraries), built, rt.processors(), SHARE * rt.free(), logs)
