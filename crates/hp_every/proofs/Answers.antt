@@ -1,4 +1,4 @@
--- What a search found is said of all schedules.
+-- Each schedule is reached by a search that tries every turn.
 use Rattle.std.proofs.Common.{◌≡◌, ℕ, zero, suc, ◌+◌, ◌<◌, ◌≤◌, ◌⊎◌, refl, ap, sym, ◌∙◌, subst, inl, inr, arith, List, [], ◌∷◌, ◌++◌, length}
 use Rattle.std.proofs.Common.{length-append, take}
 use Rattle.std.proofs.lemmas.List.{get_or_append_left, get_or_push, take-append-le, take_all}
@@ -67,31 +67,13 @@ may_at_place a turns h k d within =
     subst (λ (xs : List Turn). MayGoOn a (take k xs) (slice_index_or xs k d)) h.made
     (turn_at a h.first h.moments h.last h.run k d (subst (λ (xs : List Turn). k < length xs) (sym h.made) within))
 
--- ---- what comes after a schedule
-
-pub all_after : (a : Question) (s : PathState) (here : HasTurns a s.turns) (turns : List Turn) (next : List PathState)
-    → AreAllTurns (plan_for a.script) here.last turns → AreBehind a s turns next → AreAllAfter (GoesOn a) (AreAsGood a) s next
-unfolding AreAllTurns IsCovered
-all_after a s here turns next all behind = record {
-  some = behind.some;
-  all = λ t goes. (
-      let z = goes.path in
-      let l = last_turn a z.first s.turns goes.next z.moments z.last z.run (z.made ∙ goes.turns) in
-      let there : HasTurns a s.turns =
-      record { first = z.first; moments = l.ms; last = l.split.before; run = l.split.run; made = l.made } in
-      let may = may_at a s.turns there here goes.next (subst (λ (x : Turn). MayTurn (plan_for a.script) l.split.before x) l.last
-      (may_of (plan_for a.script) l.split.before z.last l.m.event l.m.outcome l.split.last)) in
-      let found = behind.all goes.next ((all goes.next).1 may) in
-      (found.0, found.1, by_path a t found.0 z (behind.some found.0 found.1).path (goes.turns ∙ sym found.2)));
-}
-
 -- ---- what is said of all schedules
 
 -- not the contrary
-abbrev Doubly : Type 0 → Type 0
+abbrev pub Doubly : Type 0 → Type 0
 Doubly A = (A → ⊥) → ⊥
 
-decided : {P : Type 0} → Doubly (P ⊎ (P → ⊥))
+pub decided : {P : Type 0} → Doubly (P ⊎ (P → ⊥))
 decided k = k (inr (λ p. k (inl p)))
 
 -- a watch that knows
@@ -106,7 +88,7 @@ pub tracking : (moments : List Moment) → (calls : List TaskCalls) × AreCalls 
 tracking [] = ([], record { last = λ t. refl; begun = λ t. refl })
 tracking (m ∷ before) = one_more_call (tracking before).0 before m (tracking before).1
 
-all_knowing : (conditions : List Condition) (moments : List Moment) → Doubly ((k : Known) × AllKnow conditions k moments)
+pub all_knowing : (conditions : List Condition) (moments : List Moment) → Doubly ((k : Known) × AllKnow conditions k moments)
 all_knowing [] moments k =
     let calls = tracking moments in
     k (
@@ -127,7 +109,7 @@ all_knowing (c ∷ cs) moments k =
     each w ws one rest (suc j) d within = rest j d (omega (arith, within))
 
 -- a schedule as a search would keep it
-path_of : (a : Question) (f : CoreState) (ms : List Moment) (p : Place) → IsRun a f ms p → (known : Known) → AllKnow a.conditions known ms
+pub path_of : (a : Question) (f : CoreState) (ms : List Moment) (p : Place) → IsRun a f ms p → (known : Known) → AllKnow a.conditions known ms
     → MeetsHere (plan_for a.script) a.conditions f ms p ⊎ (MeetsHere (plan_for a.script) a.conditions f ms p → ⊥)
     → (s : PathState) × IsPath a s × (s.turns ≡ turns_of ms)
 path_of a f ms p run known know (inl meets) = (
@@ -192,14 +174,14 @@ kept a first path none f (m ∷ ms) p run k =
     })))))
 
 -- what is kept of a schedule tells whether it meets all conditions
-meets_as : (a : Question) (s : PathState) (x : IsPath a s) (y : HasTurns a s.turns) → MeetsHere (plan_for a.script) a.conditions y.first y.moments y.last
+pub meets_as : (a : Question) (s : PathState) (x : IsPath a s) (y : HasTurns a s.turns) → MeetsHere (plan_for a.script) a.conditions y.first y.moments y.last
     → s.met ≡ true
 meets_as a s x y meets =
     let same = same_by_turns a s.turns (run_of a s x) y in
     x.met.1 (meets_there a y.first x.first y.moments x.moments y.last x.last x.known y.run x.run (turned_round x.last y.last same)
     (know_by_turns a s.turns (run_of a s x) y x.known x.know) x.know meets)
 
-met_as : (a : Question) (s : PathState) (x : IsPath a s) (y : HasTurns a s.turns) → s.met ≡ true
+pub met_as : (a : Question) (s : PathState) (x : IsPath a s) (y : HasTurns a s.turns) → s.met ≡ true
     → MeetsHere (plan_for a.script) a.conditions y.first y.moments y.last
 met_as a s x y met =
     let same = same_by_turns a s.turns (run_of a s x) y in
@@ -207,7 +189,7 @@ met_as a s x y met =
     (know_by_turns a s.turns (run_of a s x) y x.known x.know) (x.met.0 met)
 
 -- where nothing that is reached in so many turns is met, no schedule of so many events meets the conditions
-no_schedule : (a : Question) (first : PathState) → IsPath a first → first.turns ≡ [] → (moments : List Moment)
+pub no_schedule : (a : Question) (first : PathState) → IsPath a first → first.turns ≡ [] → (moments : List Moment)
     → NoneMeets (GoesOn a) (λ s. s.met ≡ true) first (length moments) → ScheduleMeets a.script a.denials a.kills a.conditions moments → ⊥
 unfolding NoneMeets
 no_schedule a first path none moments never_met h =
@@ -215,19 +197,6 @@ no_schedule a first path none moments never_met h =
     (meets_as a there.state there.path
     (record { first = h.first; moments = moments; last = h.last; run = h.schedule; made = sym there.turns })
     (record { looked_at = h.looked_at; meets = h.meets })))
-
-pub never_means : (a : Question) (first : PathState) → IsPath a first → first.turns ≡ []
-    → ((turns : ℕ) → NoneMeets (GoesOn a) (λ s. s.met ≡ true) first turns) → NoScheduleMeets a.script a.denials a.kills a.conditions
-never_means a first path none never_met moments h = no_schedule a first path none moments (never_met (length moments)) h
-
-pub cut_means : (a : Question) (first : PathState) → IsPath a first → first.turns ≡ [] → (n : ℕ)
-    → NoneBefore (GoesOn a) (λ s. s.met ≡ true) first n
-    → (moments : List Moment) → ScheduleMeets a.script a.denials a.kills a.conditions moments → n ≤ length moments
-unfolding NoneBefore
-cut_means a first path none n never_met moments h = elim (cases_lt (length moments) n) [
-  | inl few ↦ absurd (no_schedule a first path none moments (never_met (length moments) few) h)
-  | inr many ↦ many
-]
 
 -- what is reached is a schedule of so many turns
 pub reached_path : (a : Question) (first : PathState) → IsPath a first → first.turns ≡ [] → (n : ℕ) (s : PathState)
@@ -246,25 +215,3 @@ pub turn_count : (moments : List Moment) → length (turns_of moments) ≡ lengt
 turn_count [] = refl
 turn_count (m ∷ before) =
     length-append (turns_of before) (turn_of m.event ∷ []) ∙ (ap (λ (n : ℕ). n + 1) (turn_count before) ∙ omega arith)
-
--- a shortest path is a shortest schedule, by whatever moments its turns were made
-pub met_means : (a : Question) (first s : PathState) (n : ℕ) → IsPath a first → first.turns ≡ []
-    → IsShortest (GoesOn a) (λ s. s.met ≡ true) first s n → (run : HasTurns a s.turns) (events : List Event) → events_of run.moments ≡ events
-    → schedules.IsShortest a.script a.denials a.kills a.conditions events
-met_means a first s n path none h run events told =
-    let there = reached_path a first path none n s h.reached in
-    let meets = met_as a s there.0 run h.meets_it in
-    let long : length run.moments ≡ n =
-    sym (turn_count run.moments) ∙ (ap (λ (xs : List Turn). length xs) run.made ∙ there.1) in
-    record {
-      moments = run.moments;
-      made = told;
-      meets = record {
-        first = run.first;
-        last = run.last;
-        schedule = run.run;
-        looked_at = meets.looked_at;
-        meets = meets.meets;
-      };
-      shortest = λ others other. (let least = cut_means a first path none n h.shortest others other in omega (arith, long, least));
-    }

@@ -302,18 +302,3 @@ follows_by a s t after next x turns z = (u, refl, path, as_good_of a after u z p
             (turned_round z.last g.place g.same) know z.know meets),
       );
     }
-
-pub follows : (a : Question) (s t after : PathState) → AreAsGood a s t → GoesOn a s after → (u : PathState) × GoesOn a t u × AreAsGood a after u
-follows a s t after x goes =
-    let z = follows_by a s t after goes.next x goes.turns goes.path in
-    (z.0, record { next = goes.next; turns = z.1; path = z.2 }, z.3)
-
--- what a search stands on: of the paths that are right, whatever else is known of them
-pub as_good : (a : Question) (K : Type 0) → IsAsGood (λ s. K × IsPath a s) (GoesOn a) (λ s. s.met ≡ true) (AreAsGood a)
-as_good a K = record {
-  stays = λ s t valid goes. (valid.0, goes.path);
-  itself = λ s valid. by_path a s s valid.1 valid.1 refl;
-  onward = onward a;
-  follows = follows a;
-  meets_too = λ s t good met. sym good.met ∙ met;
-}

@@ -1,3 +1,4 @@
+pub mod Eager
 pub mod Endings
 pub mod Places
 pub mod Scheduled

@@ -116,7 +116,7 @@ pub record AreAsGood (a : Question) (s t : PathState) : Type 0 where
   pub back : AreAlike there.last here.last
   pub met : s.met ≡ t.met
 
--- each of the next goes on from the schedule, and each of the turns is the last of one of them
+-- each of the next goes on from the schedule by one of the turns, and each of the turns is the last of one of them
 pub record AreBehind (a : Question) (s : PathState) (turns : List Turn) (next : List PathState) : Type 0 where
-  pub some : (t : PathState) → Contains next t → GoesOn a s t
+  pub some : (t : PathState) → Contains next t → (goes : GoesOn a s t) × Contains turns goes.next
   pub all : (x : Turn) → Contains turns x → (t : PathState) × Contains next t × (t.turns ≡ s.turns ++ x ∷ [])

@@ -13,7 +13,8 @@ ghost use Rattle.hp_hunt.specs.Conditions.{SomeRunMeets, SomeRunMisses};
 ghost use Rattle.hp_hunt.specs.declared.condition.Condition.{Condition};
 ghost use Rattle.hp_every.specs.Places.{AreAlike, HasFuture, IsPlaceOf, outcomes_of, place_words};
 ghost use Rattle.hp_every.specs.Scheduled.{IsScheduled, how_many, is_denied, is_kill};
-ghost use Rattle.hp_every.specs.Schedules.{AnyTurn, IsSchedule, IsShortest, Leads, NoScheduleMeets, Place, plan_for};
+ghost use Rattle.hp_every.specs.Schedules.{AnyTurn, Ends, IsSchedule, IsShortest, Leads, NoScheduleMeets, Place, plan_for};
+ghost use Rattle.hp_every.specs.Eager.{BeginsFirst, IsCalm, MayBegin};
 
 /// The moments of a schedule are those of a run of the machine, from a new core of the script's config on. So whatever holds of every run
 /// holds of every schedule.
@@ -81,4 +82,12 @@ pub fn names_of_frames_change_no_turn()
         → Row q.core event other core
         → AnyTurn (plan_for script) q event other (record r { core = core }) × (other ≡ outcome)
         × AreAlike r (record r { core = core }) }
+{}
+
+/// Where no step may be denied any more and no task killed, a task that may begin its next call may as well begin it first. For each schedule to
+/// its end from there another begins so: it has as many moments, leads to the same place, and the calls of each task have the same answers in it.
+pub fn a_begin_may_come_first()
+    ensures { (script : Script) (p last : Place) (task : ℕ) (moments : List Moment)
+        → MayBegin (plan_for script) p task → IsCalm p → Leads (plan_for script) p moments last → Ends (plan_for script) last
+        → BeginsFirst (plan_for script) p task moments last }
 {}

@@ -20,12 +20,14 @@ use Rattle.hp_hunt.specs.Watching.{AllKnow, known_of}
 use Rattle.hp_hunt.specs.declared.condition.Condition.{Condition}
 use Rattle.hp_hunt.specs.declared.condition.Sought.TheVariants.{Blocked}
 use Rattle.hp_every.specs.declared.turn.Turn.{Turn}
+use Rattle.hp_every.specs.Eager.{AreTried}
 use Rattle.hp_every.specs.Schedules.{Ends, IsFinal, MayTurn, Place, plan_for}
 use Rattle.hp_every.specs.Search.{AreBehind, GoesOn, HasTurns, IsPath, MayGoOn, MeetsHere, PathState, Question, search_key}
 use Rattle.hp_every.specs.Turns.{AreAllTurns}
 use Rattle.hp_every.proofs.Answers.{may_at, reached_path, turn_count}
 use Rattle.hp_every.proofs.Good.{run_of}
 use Rattle.hp_every.proofs.Runs.{event_count}
+use Rattle.hp_every.proofs.Tried.{reached_as}
 use Rattle.hp_every.proofs.Sames.{last_core}
 use Rattle.hp_search.specs.declared.position.Position.{Position}
 use Rattle.hp_search.specs.declared.reachability.Reachability.{Reachability}
@@ -83,8 +85,12 @@ pub behind_one : (a : Question) (s next : PathState) (turns : List Turn) (k : �
 behind_one a s next turns k d old within behind path is =
     subst (λ (xs : List Turn). AreBehind a s xs (old ++ next ∷ [])) (sym (take_more turns k d within)) (record {
       some = λ t c. elim (Contains-push_cases old next t c) [
-        | inl before ↦ behind.some t before
-        | inr same ↦ subst (λ (u : PathState). GoesOn a s u) same (record { next = slice_index_or turns k d; turns = is; path = path })
+        | inl before ↦ (let old = behind.some t before in
+            (old.0, Contains-append_left (take k turns) (slice_index_or turns k d ∷ []) old.0.next old.1))
+        | inr same ↦ subst (λ (u : PathState). (goes : GoesOn a s u) × Contains (take k turns ++ slice_index_or turns k d ∷ []) goes.next) same (
+          record { next = slice_index_or turns k d; turns = is; path = path },
+          Contains-push (take k turns) (slice_index_or turns k d),
+        )
       ];
       all = λ x c. elim (Contains-push_cases (take k turns) (slice_index_or turns k d) x c) [
         | inl before ↦ (let h = behind.all x before in (h.0, Contains-append_left old (next ∷ []) h.0 h.1, h.2))
@@ -98,6 +104,13 @@ pub goes_on : (a : Question) (turns : List Turn) (here : HasTurns a turns) (next
 unfolding AreAllTurns
 goes_on a turns here next all k d within =
     record { has = here; may = (all (slice_index_or next k d)).0 (Contains-get_or next k d within) }
+
+-- and so each that is tried
+pub tries_on : (a : Question) (eager : Bool) (turns : List Turn) (here : HasTurns a turns) (next : List Turn)
+    → AreTried (plan_for a.script) here.last eager next → All (MayGoOn a turns) next
+unfolding AreTried
+tries_on a eager turns here next all k d within =
+    record { has = here; may = ((all (slice_index_or next k d)).0 (Contains-get_or next k d within)).0 }
 
 -- ---- what a search says
 
@@ -204,9 +217,57 @@ at_limit a limits first path none n cut = elim cut [
   ])
 ]
 
+-- what is reached, of that many keys, by some turns is by more
+keys_as : {S K : Type 0} (eq : K → K → Bool) (key_of : S → K) (turn other : S → S → Type 0) → ((s t : S) → turn s t → other s t)
+    → (first : S) (n : ℕ) (keys : List K) → AreReached eq key_of turn first n keys → AreReached eq key_of other first n keys
+keys_as eq key_of turn other on first n keys h = record {
+  distinct = h.distinct;
+  each = λ key there. (let s = h.each key there in (s.0, reached_as turn other on first n s.0 s.1, s.2));
+}
+
+apart_as : {S K : Type 0} (eq : K → K → Bool) (key_of : S → K) (turn other : S → S → Type 0) → ((s t : S) → turn s t → other s t)
+    → (first : S) (n : ℕ) (states : List S) → AreReachedApart eq key_of turn first n states → AreReachedApart eq key_of other first n states
+apart_as eq key_of turn other on first n states h = record {
+  keys = h.keys;
+  apart = h.apart;
+  each = λ s there. reached_as turn other on first n s (h.each s there);
+}
+
+-- so what is cut by some turns would be by more
+pub cut_as : {S K : Type 0} (eq : K → K → Bool) (key_of : S → K) (turn other : S → S → Type 0) (bytes_of : S → ℕ) (limits : Limits)
+    (first : S) (n : ℕ) → ((s t : S) → turn s t → other s t)
+    → (((n ≡ limits.turns) × IsLong turn first n) ⊎ IsCrowded eq key_of turn first limits.states n
+    ⊎ IsHeavy eq key_of turn bytes_of first limits.bytes n)
+    → ((n ≡ limits.turns) × IsLong other first n) ⊎ IsCrowded eq key_of other first limits.states n
+    ⊎ IsHeavy eq key_of other bytes_of first limits.bytes n
+unfolding IsLong
+cut_as eq key_of turn other bytes_of limits first n on cut = elim cut [
+  | inl turns ↦ inl (turns.0, λ m few. (let s = turns.1 m few in (s.0, reached_as turn other on first m s.0 s.1)))
+  | inr wide ↦ inr (elim wide [
+    | inl crowd ↦ inl (record {
+      before = crowd.before;
+      next = crowd.next;
+      some = crowd.some;
+      others = crowd.others;
+      here = keys_as eq key_of turn other on first crowd.before crowd.some crowd.here;
+      behind = keys_as eq key_of turn other on first n crowd.others crowd.behind;
+      many = crowd.many;
+    })
+    | inr heavy ↦ inr (record {
+      before = heavy.before;
+      next = heavy.next;
+      some = heavy.some;
+      others = heavy.others;
+      here = apart_as eq key_of turn other on first heavy.before heavy.some heavy.here;
+      behind = apart_as eq key_of turn other on first n heavy.others heavy.behind;
+      many = heavy.many;
+    })
+  ])
+]
+
 -- an answer that keeps whatever limits its search was cut at keeps those that it had
-pub at_limits : {E : Type 0} (a : Question) (limits : Limits) (verdict : Verdict PathState) (r : Result Reachability E)
-    → IfOk r (λ answer. (l : Limits) → IsSearched a l verdict → IsWithin a l answer) → IsSearched a limits verdict
+pub at_limits : {E : Type 0} (a : Question) (eager : Bool) (limits : Limits) (verdict : Verdict PathState) (r : Result Reachability E)
+    → IfOk r (λ answer. (l : Limits) → IsSearched a eager l verdict → IsWithin a l answer) → IsSearched a eager limits verdict
     → IfOk r (IsWithin a limits)
-at_limits a limits verdict (Ok answer) h searched = h limits searched
-at_limits a limits verdict (Err e) h searched = tt
+at_limits a eager limits verdict (Ok answer) h searched = h limits searched
+at_limits a eager limits verdict (Err e) h searched = tt

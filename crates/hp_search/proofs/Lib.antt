@@ -1,5 +1,6 @@
 pub mod Bounded
 pub mod Closed
+pub mod Hastening
 pub mod Kept
 pub mod Listed
 pub mod Made

@@ -1,7 +1,7 @@
 -- A search among all schedules: how it goes, and what it says in the end.
 use Rattle.std.specs.Cmp.Lexicographic.{pointwise}
 use Rattle.std.specs.List.{IsDistinct}
-use Rattle.std.specs.Prelude.{◌≡◌, ◌+◌, ◌*◌, ◌<◌, ◌≤◌, ◌⊎◌, ℕ, List, ◌∷◌, [], Contains, Option, Some, true, length, min, nat_eq}
+use Rattle.std.specs.Prelude.{◌≡◌, ◌+◌, ◌*◌, ◌<◌, ◌≤◌, ◌⊎◌, ℕ, Bool, List, ◌∷◌, [], Contains, Option, Some, true, length, min, nat_eq}
 use Rattle.hp_base.specs.Mappings.{IsRoom}
 use Rattle.hp_base.specs.Text.{sizes}
 use Rattle.hp_base.specs.declared.event.Event.{Event}
@@ -19,9 +19,10 @@ use Rattle.hp_layers.specs.Layers.{IsCutAtLimits, IsOver, IsRight, bytes_in}
 use Rattle.hp_layers.specs.declared.limits.Limits.{Limits}
 use Rattle.hp_layers.specs.declared.verdict.Verdict.{Verdict}
 use Rattle.hp_every.specs.declared.turn.Turn.{Turn}
+use Rattle.hp_every.specs.Eager.{MayBeEager, Tries}
 use Rattle.hp_every.specs.Endings.{Ended, all_among, answers_in}
 use Rattle.hp_every.specs.Schedules.{AnyTurn, IsShortest, NoScheduleMeets, Place, ScheduleMeets, plan_for}
-use Rattle.hp_every.specs.Search.{GoesOn, HasTurns, IsPath, IsRun, PathState, Question, search_key}
+use Rattle.hp_every.specs.Search.{HasTurns, IsPath, IsRun, PathState, Question, search_key}
 use Rattle.hp_every.specs.Turns.{turn_of, turns_of}
 use Rattle.hp_search.specs.declared.reachability.Reachability.{Reachability}
 use Rattle.hp_search.specs.declared.reachability.Reachability.TheVariants.{Never, Met, Cut}
@@ -142,13 +143,15 @@ IsWithin a limits (Met trace) = length trace.events.items < limits.turns
 IsWithin a limits (Cut turns) = ((turns ≡ limits.turns) × AreLong a turns) ⊎ IsTooMany a limits.states turns
     ⊎ IsTooHeavy a limits.bytes turns
 
--- a search of the schedules that are asked for, layer by layer from the schedule of no turn on, says this, and was cut at no other limits
-pub record IsSearched (a : Question) (limits : Limits) (verdict : Verdict PathState) : Type 0 where
+-- A search of the schedules that are asked for, layer by layer from the schedule of no turn on, says this, and was cut at no other limits. It is
+-- eager only where it may be.
+pub record IsSearched (a : Question) (eager : Bool) (limits : Limits) (verdict : Verdict PathState) : Type 0 where
+  pub may : eager ≡ true → MayBeEager a.conditions
   pub first : PathState
   pub path : IsPath a first
   pub none : first.turns ≡ []
-  pub right : IsRight (GoesOn a) (λ s. s.met ≡ true) first verdict
-  pub cut : IsCutAtLimits (pointwise nat_eq) (λ s. s.key) (GoesOn a) path_bytes first limits verdict
+  pub right : IsRight (Tries a eager) (λ s. s.met ≡ true) first verdict
+  pub cut : IsCutAtLimits (pointwise nat_eq) (λ s. s.key) (Tries a eager) path_bytes first limits verdict
 
 -- What is said of all schedules: that none meets the conditions; or the events of a shortest that does; or that each that does has
 -- at least so many.

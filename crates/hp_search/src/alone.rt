@@ -2,6 +2,7 @@
 ghost use Rattle.std.specs.Prelude.{IfOk};
 ghost use Rattle.hp_search.specs.Searching.{IsAnswer, IsWithin, question};
 
+use crate::eager::may_be_eager;
 use crate::finding::{Budget, first_path, reachability_of};
 use crate::query::Query;
 use crate::reachability::Reachability;
@@ -30,6 +31,7 @@ pub fn find_every_alone(
         conditions,
         denials: budget.denials,
         kills: budget.kills,
+        eager: may_be_eager(conditions),
     };
     let first = first_path(alloc, query)?;
     let verdict = search_alone(alloc, &query, first, limits, progress)?;

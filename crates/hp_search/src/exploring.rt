@@ -191,6 +191,7 @@ pub fn explore_every(
         conditions: &[],
         denials: budget.denials,
         kills: budget.kills,
+        eager: false,
     };
     let first = first_end_path(alloc, query)?;
     match endings(rt, alloc, &EndQuery { query }, first, limits, progress)? {

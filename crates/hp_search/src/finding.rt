@@ -2,10 +2,13 @@
 ghost use Rattle.std.specs.Prelude.{◌≡◌, [], true, IfOk};
 ghost use Rattle.std.proofs.Common.{sym};
 ghost use Rattle.std.specs.Cmp.Lexicographic.{bytes_decides};
-ghost use Rattle.hp_every.proofs.Good.{as_good, by_key};
-ghost use Rattle.hp_every.specs.Search.{AreAsGood, GoesOn, HasTurns, IsPath};
+ghost use Rattle.hp_every.proofs.Good.{by_key};
+ghost use Rattle.hp_every.proofs.Tried.{as_good_tried};
+ghost use Rattle.hp_every.specs.Eager.{Tries};
+ghost use Rattle.hp_every.specs.Search.{AreAsGood, HasTurns, IsPath};
 ghost use Rattle.hp_search.specs.Searching.{HasEvents, IsAnswer, IsQuery, IsSearched, IsWithin, path_bytes, question, question_of};
 
+use crate::eager::may_be_eager;
 use crate::following::follow;
 use crate::key::Key;
 use crate::path::{Path, all_behind, path_at};
@@ -28,7 +31,7 @@ impl Turns for Query<'_> {
 
     ghost valid = { λ query s. IsQuery query × IsPath (question_of query) s };
 
-    ghost turn = { λ query s t. GoesOn (question_of query) s t };
+    ghost turn = { λ query s t. Tries (question_of query) query.eager s t };
 
     ghost meets = { λ query s. s.met ≡ true };
 
@@ -59,7 +62,7 @@ impl Turns for Query<'_> {
         path.met
     }
 
-    ghost as_good = { λ query. as_good (question_of query) (IsQuery query) };
+    ghost as_good = { λ query. as_good_tried (question_of query) query.eager (IsQuery query) };
 
     ghost same_key = { λ query s t valid other e. by_key (question_of query) s t valid.1 other.1 (sym ((bytes_decides t.key s.key).0 e)) };
 }
@@ -102,9 +105,9 @@ pub(crate) fn reachability_of(
     verdict: Verdict<Path>,
 ) -> Result<Reachability, AllocError>
     requires planned { IsQuery query }
-    requires searched { (limits : Limits) × IsSearched (question_of query) limits verdict }
+    requires searched { (limits : Limits) × IsSearched (question_of query) query.eager limits verdict }
     ensures answer { IfOk result (IsAnswer (question_of query.entry)) }
-    ensures within { IfOk result (λ answer. (limits : Limits) → IsSearched (question_of query.entry) limits verdict
+    ensures within { IfOk result (λ answer. (limits : Limits) → IsSearched (question_of query.entry) query.entry.eager limits verdict
         → IsWithin (question_of query.entry) limits answer) }
 {
     match verdict {
@@ -140,6 +143,7 @@ pub fn find_every(
         conditions,
         denials: budget.denials,
         kills: budget.kills,
+        eager: may_be_eager(conditions),
     };
     let first = first_path(alloc, query)?;
     let verdict = search(rt, alloc, &query, first, limits, progress)?;

@@ -9,6 +9,7 @@
 mod alone;
 mod answers;
 mod closing;
+mod eager;
 mod endings;
 mod exploring;
 mod finding;

@@ -6,7 +6,8 @@ ghost use Rattle.hp_hunt.specs.Watching.{AllKnow, known_of};
 ghost use Rattle.hp_key.specs.Numbers.{counted, wide};
 ghost use Rattle.hp_watch.specs.Moments.{Moment, last_of};
 ghost use Rattle.hp_layers.specs.Layers.{AreAllAfter};
-ghost use Rattle.hp_every.specs.Search.{AreAsGood, AreBehind, GoesOn, IsPath, MayGoOn, MeetsHere, call_number, calls_words, search_key, search_words, watch_words};
+ghost use Rattle.hp_every.specs.Eager.{Tries};
+ghost use Rattle.hp_every.specs.Search.{AreAsGood, AreBehind, IsPath, MayGoOn, MeetsHere, call_number, calls_words, search_key, search_words, watch_words};
 ghost use Rattle.hp_every.specs.Schedules.{IsFinal};
 ghost use Rattle.hp_search.specs.Searching.{IsAt, IsQuery, question_of, path_bytes, place_of};
 ghost use Rattle.hp_hunt.specs.declared.condition.Condition.{Condition};
@@ -142,7 +143,7 @@ fn is_final(condition: &Condition) -> bool
     !condition.wanted || matches!(condition.sought, Sought::Final(_))
 }
 
-fn has_final(conditions: &[Condition]) -> bool
+pub(crate) fn has_final(conditions: &[Condition]) -> bool
     ensures some { result ≡ true → (k : ℕ) × (k < length conditions.now) × ((d : Condition) → IsFinal (slice_index_or conditions.now k d)) }
     ensures none { result ≡ false → All (λ c. ¬ IsFinal c) conditions.now }
 {
@@ -275,7 +276,7 @@ fn paths_behind(
     Ok(next)
 }
 
-/// The schedules with one turn more, one for each turn that may be made from where the schedule stands.
+/// The schedules with one turn more, one for each turn that is tried from where the schedule stands.
 pub(crate) fn all_behind(
     alloc: Global,
     query: Query,
@@ -284,9 +285,10 @@ pub(crate) fn all_behind(
 ) -> Result<Vec<Path>, AllocError>
     requires planned { IsQuery query }
     requires at { (events : List Event) × IsAt (question_of query) path.now.turns events position.old }
-    ensures { IfOk result (λ next. AreAllAfter (GoesOn (question_of query.entry)) (AreAsGood (question_of query.entry)) path.now next.items) }
+    ensures { IfOk result (λ next. AreAllAfter (Tries (question_of query.entry) query.entry.eager) (AreAsGood (question_of query.entry))
+        path.now next.items) }
 {
-    let turns = position.next_turns(alloc, query.plan)?;
+    let turns = position.turns_to_try(alloc, query)?;
     let next = paths_behind(alloc, query, path, position, &turns)?;
     Ok(next)
 }

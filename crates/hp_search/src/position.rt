@@ -1,9 +1,10 @@
 //! A place in a schedule, and what conditions have seen on the way there.
-ghost use Rattle.std.specs.Prelude.{◌≡◌, ◌<◌, ◌≤◌, ◌++◌, ◌∷◌, ◌↔◌, ◌⊎◌, [], Contains, IfOk, IsTrue, OnOk};
+ghost use Rattle.std.specs.Prelude.{◌≡◌, ◌<◌, ◌≤◌, ◌++◌, ◌∷◌, ◌↔◌, ◌⊎◌, [], ℕ, Contains, IfOk, IfSome, IsTrue, None, OnOk};
 ghost use Rattle.hp_core.specs.Runs.{IsOpening};
 ghost use Rattle.hp_explore.specs.Explored.{is_done};
 ghost use Rattle.hp_hunt.specs.Watching.{AllKnow, known_of};
 ghost use Rattle.hp_layers.specs.Named.{AreApart};
+ghost use Rattle.hp_every.specs.Eager.{AreTried, IsEager, MayBegin};
 ghost use Rattle.hp_every.specs.Schedules.{IsTask, MayTurn, first_place, world};
 ghost use Rattle.hp_every.specs.declared.turn.Turn.{Turn};
 ghost use Rattle.hp_every.specs.declared.turn.Turn.TheVariants as turn;
@@ -176,5 +177,43 @@ impl Position {
             self.push_turns(plan, place as u8 + 1, &mut turns)?;
         }
         Ok(turns)
+    }
+
+    /// Whether the task may begin its next call, and is alive.
+    fn may_begin(&self, plan: &Plan, task: u32) -> bool
+        requires { IsTask (place_of self.now) task }
+        ensures { IsTrue result ↔ MayBegin plan.now (place_of self.now) task }
+    {
+        !self.walk.in_call(task) && self.walk.is_alive(task) && self.may_go_on(plan, task)
+    }
+
+    /// The task that is eager to begin, if one is.
+    fn eager_task(&self, plan: &Plan) -> Option<u8>
+        ensures some { IfSome result (λ task. IsEager plan.now (place_of self.now) task) }
+        ensures none { result ≡ None → (task : ℕ) → ¬ IsEager plan.now (place_of self.now) task }
+    {
+        if self.denials > 0 || self.kills > 0 {
+            return None;
+        }
+        for place in 0..self.walk.made().len() {
+            if self.may_begin(plan, place as u32 + 1) {
+                return Some(place as u8 + 1);
+            }
+        }
+        None
+    }
+
+    /// The turns that may be made and are tried.
+    pub(crate) fn turns_to_try(&self, alloc: Global, query: Query) -> Result<Vec<Turn>, AllocError>
+        ensures { IfOk result (λ turns. AreTried query.entry.plan.now (place_of self.now) query.entry.eager turns.items) }
+    {
+        if query.eager {
+            if let Some(task) = self.eager_task(query.plan) {
+                let mut turns = Vec::new(alloc);
+                turns.push(Turn::Next(task))?;
+                return Ok(turns);
+            }
+        }
+        self.next_turns(alloc, query.plan)
     }
 }

@@ -5,6 +5,7 @@ pub reachability_of-requires-clause-searched : goal.reachability_of-requires-cla
 reachability_of-requires-clause-searched c c' = (
   c'.args.limits,
   record {
+    may = c'.may_be_eager.ensures;
     first = c'.in_ok-first.first;
     path = c'.in_ok-first.ensures.path;
     none = c'.in_ok-first.ensures.turns;
@@ -15,7 +16,8 @@ reachability_of-requires-clause-searched c c' = (
 
 pub returns-clause-within : goal.returns-clause-within
 returns-clause-within c c' =
-    at_limits _ c'.args.limits _ c'.reachability_of.result c'.reachability_of.ensures.within (record {
+    at_limits _ _ c'.args.limits _ c'.reachability_of.result c'.reachability_of.ensures.within (record {
+      may = c'.may_be_eager.ensures;
       first = c'.in_ok-first.first;
       path = c'.in_ok-first.ensures.path;
       none = c'.in_ok-first.ensures.turns;

@@ -1,0 +1,59 @@
+-- Which turns are tried.
+use Rattle.std.proofs.Common.{◌≡◌, ◌∙◌, ℕ, ◌+◌, ◌<◌, ◌≤◌, refl, ap, sym, subst, inl, inr, arith, List, [], ◌∷◌, ◌++◌, length}
+use Rattle.std.proofs.lemmas.Bool.{cases_lt}
+use Rattle.std.proofs.lemmas.List.Elements.{Contains-push, Contains-push_cases}
+use Rattle.std.specs.Prelude.{◌↔◌, Bool, Contains, Option, None, Some, IfSome, true, false}
+use Rattle.hp_explore.specs.Schedule.{Plan}
+use Rattle.hp_every.specs.declared.turn.Turn.{Turn}
+use Rattle.hp_every.specs.declared.turn.Turn.TheVariants.{Next}
+use Rattle.hp_every.specs.Eager.{AreTried, IsCalm, IsEager, IsTried, MayBegin}
+use Rattle.hp_every.specs.Schedules.{MayTurn, Place}
+use Rattle.hp_every.specs.Turns.{AreAllTurns}
+use Rattle.hp_every.proofs.Tried.{one_eager}
+
+-- ---- who is eager
+
+-- there is no task 0
+pub none_yet : (plan : Plan) (p : Place) (u : ℕ) → u ≤ 0 → MayBegin plan p u → ⊥
+none_yet plan p u low may = (let some = may.there.0 in absurd (omega (arith, some, low)))
+
+pub none_more : (plan : Plan) (p : Place) (k : ℕ) → ((u : ℕ) → u ≤ k → MayBegin plan p u → ⊥) → (MayBegin plan p (k + 1) → ⊥)
+    → (u : ℕ) → u ≤ k + 1 → MayBegin plan p u → ⊥
+none_more plan p k none this u low may = elim (cases_lt u (k + 1)) [
+  | inl before ↦ none u (omega (arith, before)) may
+  | inr last ↦ (let is : u ≡ k + 1 = omega (arith, low, last) in this (subst (MayBegin plan p) is may))
+]
+
+-- the first that may begin is eager
+pub eager_at : (plan : Plan) (p : Place) (k : ℕ) → p.denials ≡ 0 → p.kills ≡ 0 → ((u : ℕ) → u ≤ k → MayBegin plan p u → ⊥)
+    → MayBegin plan p (k + 1) → IsEager plan p (k + 1)
+eager_at plan p k denials kills none may = record {
+  calm = record { denials = denials; kills = kills };
+  begins = may;
+  first = λ u less. none u (omega (arith, less));
+}
+
+-- where none may begin none is
+pub n-- its begin alone
+pub tried_one : (plan : Plan) (p : Place) (t : ℕ) (turns : List Turn) → IsEager plan p t → turns ≡ [] ++ Next t ∷ [] → AreTried plan p true turns
+unfolding AreTried
+tried_one plan p t turns h is turn = (
+  λ there. (
+      let same : Next t ≡ turn = elim (Contains-push_cases [] (Next t) turn (subst (λ (xs : List Turn). Contains xs turn) is there)) [
+        | inl none ↦ (let low = none.1 in absurd (omega (arith, low)))
+        | inr e ↦ e
+      ] in (
+        subst (MayTurn plan p) same (h.begins.there, h.begins.can),
+        λ u other. sym same ∙ ap (λ (x : ℕ). Next x) (one_eager plan p t u h other),
+      )),
+  λ both. subst (λ (xs : List Turn). Contains xs turn) (sym is)
+      (subst (Contains ([] ++ Next t ∷ [])) (sym (both.1 t h)) (Contains-push [] (Next t))),
+)
+
+-- all turns, where no task is eager or the search isn't
+pub tried_all : (plan : Plan) (p : Place) (eager : Bool) (turns : List Turn) → (eager ≡ true → (task : ℕ) → IsEager plan p task → ⊥)
+    → AreAllTurns plan p turns → AreTried plan p eager turns
+unfolding AreTried AreAllTurns
+tried_all plan p true turns none all turn =
+    (λ there. ((all turn).0 there, λ u other. absurd (none refl u other)), λ both. (all turn).1 both.0)
+tried_all plan p false turns none all turn = (λ there. ((all turn).0 there, tt), λ both. (all turn).1 both.0)
