@@ -11,31 +11,8 @@ use Rattle.hp_every.specs.Schedules.{MayTurn, Place}
 use Rattle.hp_every.specs.Turns.{AreAllTurns}
 use Rattle.hp_every.proofs.Tried.{one_eager}
 
--- ---- who is eager
-
--- there is no task 0
-pub none_yet : (plan : Plan) (p : Place) (u : ℕ) → u ≤ 0 → MayBegin plan p u → ⊥
-none_yet plan p u low may = (let some = may.there.0 in absurd (omega (arith, some, low)))
-
-pub none_more : (plan : Plan) (p : Place) (k : ℕ) → ((u : ℕ) → u ≤ k → MayBegin plan p u → ⊥) → (MayBegin plan p (k + 1) → ⊥)
-    → (u : ℕ) → u ≤ k + 1 → MayBegin plan p u → ⊥
-none_more plan p k none this u low may = elim (cases_lt u (k + 1)) [
-  | inl before ↦ none u (omega (arith, before)) may
-  | inr last ↦ (let is : u ≡ k + 1 = omega (arith, low, last) in this (subst (MayBegin plan p) is may))
-]
-
--- the first that may begin is eager
-pub eager_at : (plan : Plan) (p : Place) (k : ℕ) → p.denials ≡ 0 → p.kills ≡ 0 → ((u : ℕ) → u ≤ k → MayBegin plan p u → ⊥)
-    → MayBegin plan p (k + 1) → IsEager plan p (k + 1)
-eager_at plan p k denials kills none may = record {
-  calm = record { denials = denials; kills = kills };
-  begins = may;
-  first = λ u less. none u (omega (arith, less));
-}
-
--- where none may begin none is
-pub n-- its begin alone
-pub tried_one : (plan : Plan) (p : Place) (t : ℕ) (turns : List Turn) → IsEager plan p t → turns ≡ [] ++ Next t ∷ [] → AreTried plan p true turns
+-- its begin alone
+tried_one : (plan : Plan) (p : Place) (t : ℕ) (turns : List Turn) → IsEager plan p t → turns ≡ [] ++ Next t ∷ [] → AreTried plan p true turns
 unfolding AreTried
 tried_one plan p t turns h is turn = (
   λ there. (
@@ -49,6 +26,11 @@ tried_one plan p t turns h is turn = (
   λ both. subst (λ (xs : List Turn). Contains xs turn) (sym is)
       (subst (Contains ([] ++ Next t ∷ [])) (sym (both.1 t h)) (Contains-push [] (Next t))),
 )
+
+-- and so where the search is known to be eager
+pub tried_begin : (plan : Plan) (p : Place) (eager : Bool) (t : ℕ) (turns : List Turn) → eager ≡ true → IsEager plan p t → turns ≡ [] ++ Next t ∷ []
+    → AreTried plan p eager turns
+tried_begin plan p eager t turns is h all = subst (λ (b : Bool). AreTried plan p b turns) (sym is) (tried_one plan p t turns h all)
 
 -- all turns, where no task is eager or the search isn't
 pub tried_all : (plan : Plan) (p : Place) (eager : Bool) (turns : List Turn) → (eager ≡ true → (task : ℕ) → IsEager plan p task → ⊥)

@@ -2,7 +2,7 @@
 use Rattle.std.proofs.Common.{◌≡◌, ◌∙◌, ℕ, ◌+◌, ◌<◌, refl, ap, sym, subst, inl, inr, arith, List, [], ◌∷◌, ◌++◌, length, take}
 use Rattle.std.specs.Cmp.Lexicographic.{bytes_decides, nat_list_eq_equiv, pointwise}
 use Rattle.std.proofs.lemmas.Map.Views.{list_any-from_Contains}
-use Rattle.std.specs.Prelude.{◌↔◌, ◌⊎◌, ◌==◌, nat_eq, All, Bool, IfOk, None, Result, Ok, Err, true, false, slice_index_or}
+use Rattle.std.specs.Prelude.{◌↔◌, ◌⊎◌, ◌==◌, nat_eq, All, Bool, Contains, IfOk, None, Result, Ok, Err, true, false, slice_index_or}
 use Rattle.std.proofs.lemmas.List.{take_more}
 use Rattle.std.proofs.lemmas.List.Elements.{Contains-append_left, Contains-get_or, Contains-push, Contains-push_cases}
 use Rattle.std.proofs.lemmas.Bool.Decides.{nat_tests}

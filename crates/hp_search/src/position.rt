@@ -214,6 +214,7 @@ impl Position {
                 return Ok(turns);
             }
         }
-        self.next_turns(alloc, query.plan)
+        let turns = self.next_turns(alloc, query.plan)?;
+        Ok(turns)
     }
 }

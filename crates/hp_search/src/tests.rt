@@ -2,7 +2,10 @@
 //! finds no frame 7, and one that is denied its descriptor 4.
 use crate::{Budget, Reachability, find_every};
 use hp_base::Task;
-use hp_hunt::{AnswerName, AnswerWord, CallChoice, Condition, Sought, SoughtAnswer};
+use hp_hunt::{
+    AnswerName, AnswerWord, CallChoice, Comparison, Condition, PoolCount, Relation, Sought,
+    SoughtAnswer,
+};
 use hp_layers::{Limits, Progress};
 use hp_text::{ReplayFault, read_any_script};
 use std::alloc::Global;
@@ -65,6 +68,17 @@ fn said(
     }
 }
 
+/// No call is in flight at the end.
+const AT_REST: Condition = Condition {
+    sought: Sought::Final(Comparison {
+        count: PoolCount::Calls,
+        relation: Relation::Equal,
+        number: 0,
+    }),
+    wanted: true,
+    choice: 3,
+};
+
 const NOTHING: Budget = Budget {
     denials: 0,
     kills: 0,
@@ -82,6 +96,17 @@ fn one_of_two_gets_the_page(rt: HostRuntime) -> Result<(), Fail> {
         NOTHING,
         1000,
     );
+    assert!(rt; matches!(never, Ok(1000)));
+    Ok(())
+}
+
+#[test]
+fn an_eager_search_says_the_same(rt: HostRuntime) -> Result<(), Fail> {
+    let [one, other] = both(AnswerWord::Mapped, AnswerWord::NoFrame);
+    let met = said(&rt, rt.alloc(), &[one, other, AT_REST], NOTHING, 1000);
+    assert!(rt; matches!(met, Ok(15)));
+    let [one, other] = both(AnswerWord::Mapped, AnswerWord::Mapped);
+    let never = said(&rt, rt.alloc(), &[one, other, AT_REST], NOTHING, 1000);
     assert!(rt; matches!(never, Ok(1000)));
     Ok(())
 }
