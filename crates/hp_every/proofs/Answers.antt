@@ -1,14 +1,13 @@
 -- Each schedule is reached by a search that tries every turn.
-use Rattle.std.proofs.Common.{◌≡◌, ℕ, zero, suc, ◌+◌, ◌<◌, ◌≤◌, ◌⊎◌, refl, ap, sym, ◌∙◌, subst, inl, inr, arith, List, [], ◌∷◌, ◌++◌, length}
+use Rattle.std.proofs.Common.{◌≡◌, ℕ, zero, suc, ◌+◌, ◌<◌, ◌⊎◌, refl, ap, sym, ◌∙◌, subst, inl, inr, arith, List, [], ◌∷◌, ◌++◌, length}
 use Rattle.std.proofs.Common.{length-append, take}
 use Rattle.std.proofs.lemmas.List.{get_or_append_left, get_or_push, take-append-le, take_all}
 use Rattle.std.specs.Prelude.{true, false, All, slice_index_or}
 use Rattle.std.proofs.lemmas.Bool.{cases_lt}
 use Rattle.hp_laws.proofs.Deciding.{never}
-use Rattle.hp_base.specs.declared.event.Event.{Event}
 use Rattle.hp_core.specs.State.{CoreState}
-use Rattle.hp_watch.specs.Moments.{Moment, Once, events_of}
-use Rattle.hp_layers.specs.Layers.{AreAllAfter, IsCovered, IsReached, IsShortest, NoneBefore, NoneMeets}
+use Rattle.hp_watch.specs.Moments.{Moment, Once}
+use Rattle.hp_layers.specs.Layers.{IsReached, NoneMeets}
 use Rattle.hp_watch.proofs.Begun.{one_more_call}
 use Rattle.hp_watch.specs.Calls.{AreCalls}
 use Rattle.hp_watch.specs.declared.calls.TaskCalls.{TaskCalls}
@@ -17,12 +16,11 @@ use Rattle.hp_hunt.specs.Watching.{AllKnow, Known, Knows}
 use Rattle.hp_hunt.specs.declared.condition.Condition.{Condition}
 use Rattle.hp_hunt.specs.declared.watching.Watch.{Watch}
 use Rattle.hp_every.specs.declared.turn.Turn.{Turn}
-use Rattle.hp_every.specs.Schedules as schedules
-use Rattle.hp_every.specs.Schedules.{MayTurn, NoScheduleMeets, Place, ScheduleMeets, plan_for}
-use Rattle.hp_every.specs.Search.{AreAsGood, AreBehind, Question, GoesOn, HasTurns, IsPath, IsRun, MayGoOn, MeetsHere, PathState}
+use Rattle.hp_every.specs.Schedules.{MayTurn, Place, ScheduleMeets, plan_for}
+use Rattle.hp_every.specs.Search.{Question, GoesOn, HasTurns, IsPath, IsRun, MayGoOn, MeetsHere, PathState}
 use Rattle.hp_every.specs.Search.{search_key}
-use Rattle.hp_every.specs.Turns.{AreAllTurns, turn_of, turns_of}
-use Rattle.hp_every.proofs.Good.{by_path, know_by_turns, last_turn, run_of, same_by_turns}
+use Rattle.hp_every.specs.Turns.{turn_of, turns_of}
+use Rattle.hp_every.proofs.Good.{know_by_turns, run_of, same_by_turns}
 use Rattle.hp_every.proofs.Knowing.{meets_there}
 use Rattle.hp_every.proofs.Sames.{looks, may_of, may_there, place_is, split, turned_round}
 

@@ -1,6 +1,5 @@
 -- A begin commutes with the turns of the other tasks.
-use Rattle.std.proofs.Common.{◌≡◌, ◌≢◌, ◌∙◌, ℕ, ◌+◌, ◌<◌, ◌≤◌, refl, ap, sym, subst, inl, inr, arith, List, [], ◌∷◌, length}
-use Rattle.std.proofs.Math.Path.{fun_ext}
+use Rattle.std.proofs.Common.{◌≡◌, ◌≢◌, ◌∙◌, ℕ, ◌+◌, ◌≤◌, refl, ap, sym, subst, inl, inr, arith, List, [], ◌∷◌, length}
 use Rattle.std.proofs.lemmas.List.{get_or-set_other, get_or-set_same, length-set, set_comm}
 use Rattle.std.specs.Prelude.{◌-◌, ◌&&◌, Bool, true, false, IsTrue, MatchBool, Option, None, Some, is_some, nat_le, slice_get}
 use Rattle.std.specs.Prelude.{if◌then◌else◌, slice_index, slice_index_or, slice_set}
@@ -10,7 +9,7 @@ use Rattle.std.proofs.lemmas.Bool.Decides.{nat_tests}
 use Rattle.hp_base.proofs.Puts.{put_other, put_same, same_or_other}
 use Rattle.hp_base.specs.declared.event.Op.{Op}
 use Rattle.hp_base.specs.declared.event.Event.{Event}
-use Rattle.hp_base.specs.declared.event.Event.TheVariants.{Begin, Step, Kill}
+use Rattle.hp_base.specs.declared.event.Event.TheVariants.{Begin, Step}
 use Rattle.hp_laws.specs.Laws.{IsOf}
 use Rattle.hp_laws.proofs.Deciding.{clash, never, some_same}
 use Rattle.hp_laws.proofs.Nearing.{others_stay}
@@ -18,13 +17,12 @@ use Rattle.hp_machine.specs.Events as events
 use Rattle.hp_machine.specs.Events.{first, word_of}
 use Rattle.hp_machine.specs.State.{State, is_dead, is_killed}
 use Rattle.hp_machine.specs.declared.call.Call.{Call}
-use Rattle.hp_machine.specs.declared.outcome.Life.{Life}
 use Rattle.hp_machine.specs.declared.outcome.Life.TheVariants.{Alive}
 use Rattle.hp_machine.specs.declared.outcome.Outcome.{Outcome}
 use Rattle.hp_machine.specs.declared.outcome.Outcome.TheVariants.{Begun, Blocked}
 use Rattle.hp_core.specs.Readers.{life_of, phase_of}
 use Rattle.hp_core.specs.Runs.{Row}
-use Rattle.hp_core.specs.State.{CoreState, as_state, calls_of, lives_of, task_state_at}
+use Rattle.hp_core.specs.State.{CoreState, as_state, lives_of, task_state_at}
 use Rattle.hp_core.specs.TaskStates.{with_task_state}
 use Rattle.hp_core.specs.Waiting.{WaitsFor}
 use Rattle.hp_core.specs.declared.task_state.TaskState.{TaskState}

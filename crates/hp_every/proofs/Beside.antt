@@ -1,13 +1,13 @@
 -- A call in flight shows in no event of another task, and the event doesn't show in the call.
-use Rattle.std.proofs.Common.{◌≡◌, ◌≢◌, ◌∙◌, ℕ, refl, ap, sym, subst, inl, inr}
+use Rattle.std.proofs.Common.{◌≡◌, ◌≢◌, ◌∙◌, ℕ, ap, sym, subst, inl, inr}
 use Rattle.std.proofs.Math.Path.{fun_ext}
-use Rattle.std.specs.Prelude.{not, ◌&&◌, Bool, true, false, Option, Some, None, MatchOption}
+use Rattle.std.specs.Prelude.{not, ◌&&◌, Bool, false, Option, Some, None, MatchOption}
 use Rattle.hp_base.specs.Numbers.{put}
 use Rattle.hp_base.proofs.Puts.{put_other, put_same, same_or_other}
 use Rattle.hp_base.specs.declared.event.Op.{Op}
 use Rattle.hp_base.specs.declared.event.Event.{Event}
 use Rattle.hp_base.specs.declared.event.Event.TheVariants.{Begin, Step, Kill, Resize}
-use Rattle.hp_machine.specs.State.{Pool, State, pool_of, with_pool, is_alive, is_dead, is_killed}
+use Rattle.hp_machine.specs.State.{State, with_pool, is_alive, is_dead, is_killed}
 use Rattle.hp_machine.specs.Events.{BeginRow, KillRow, Refuses, Row, StepRow, first, is_exit, lives_after}
 use Rattle.hp_machine.specs.declared.call.Call.{Call}
 use Rattle.hp_machine.specs.declared.outcome.Outcome.{Outcome}

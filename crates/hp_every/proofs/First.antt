@@ -1,26 +1,22 @@
 -- A task that may begin its next call may as well begin it first.
-use Rattle.std.proofs.Common.{◌≡◌, ◌≢◌, ◌∙◌, ℕ, zero, suc, ◌+◌, ◌<◌, ◌≤◌, refl, ap, sym, subst, inl, inr, arith, List, [], ◌∷◌, ◌++◌, length}
-use Rattle.std.proofs.lemmas.List.{append-nil}
+use Rattle.std.proofs.Common.{◌≡◌, ◌≢◌, ◌∙◌, ℕ, ◌+◌, ◌≤◌, refl, ap, sym, subst, inl, inr, arith, List, [], ◌∷◌, ◌++◌, length}
 use Rattle.std.proofs.Common.{length-append}
 use Rattle.std.specs.Prelude.{◌⊎◌, ◌↔◌, Some}
 use Rattle.hp_base.proofs.Puts.{same_or_other}
 use Rattle.hp_base.specs.declared.event.Op.{Op}
-use Rattle.hp_base.specs.declared.event.Event.{Event}
 use Rattle.hp_base.specs.declared.event.Event.TheVariants.{Begin}
 use Rattle.hp_machine.specs.declared.outcome.Outcome.TheVariants.{Begun}
 use Rattle.hp_core.specs.State.{CoreState}
-use Rattle.hp_watch.specs.Moments.{Moment, Once, last_of}
+use Rattle.hp_watch.specs.Moments.{Moment, last_of}
 use Rattle.hp_explore.specs.Schedule.{Plan, next_call}
 use Rattle.hp_hunt.specs.Conditions.{Finds, HasCount}
-use Rattle.hp_hunt.specs.declared.condition.Comparison.{Comparison}
 use Rattle.hp_hunt.specs.declared.condition.Sought.{Sought}
 use Rattle.hp_hunt.specs.declared.condition.Sought.TheVariants as sought
 use Rattle.hp_every.specs.declared.turn.Turn.TheVariants.{Next}
 use Rattle.hp_every.specs.Eager.{BeginsFirst, IsCalm, IsKept, MayBegin}
 use Rattle.hp_every.specs.Schedules.{AnyTurn, Ends, Leads, Place}
-use Rattle.hp_every.specs.Turns.{turn_of}
 use Rattle.hp_every.proofs.Begins.{IsBegun, begin_turn, begun_there, its_turn, not_its, still_begins, still_calm, still_next, the_op, turn_after}
-use Rattle.hp_every.proofs.Shuffled.{IsBegin, IsLike, TellSame, begins_like, change_places, tell_more, tell_self, tell_then}
+use Rattle.hp_every.proofs.Shuffled.{IsBegin, TellSame, begins_like, change_places, tell_more, tell_self, tell_then}
 
 -- Behind the begin of the task's call other moments lead there. They tell the same as those moments with the begin behind them.
 record IsMovedUp (plan : Plan) (p : Place) (t : ℕ) (op : Op) (moments : List Moment) (last : Place) : Type 0 where

@@ -1,19 +1,13 @@
 -- Places that turns lead to are reached, and those with equal words differ in the names of frames alone.
-use Rattle.std.proofs.Common.{◌≡◌, ℕ, refl, ap, sym, ◌∙◌, subst, List, [], ◌∷◌, ◌++◌}
-use Rattle.std.specs.Prelude.{is_some, IsSomeAnd}
-use Rattle.std.specs.Option.{option_map}
+use Rattle.std.proofs.Common.{◌≡◌, ℕ, ap, sym, ◌∙◌, subst, List, [], ◌∷◌, ◌++◌}
+use Rattle.std.specs.Prelude.{IsSomeAnd}
 use Rattle.hp_base.specs.Text.{sizes}
-use Rattle.hp_base.specs.declared.event.Event.TheVariants.{Step}
 use Rattle.hp_machine.specs.State.{State}
-use Rattle.hp_machine.specs.Events.{IsReached, word_of}
-use Rattle.hp_machine.specs.Events as events
+use Rattle.hp_machine.specs.Events.{IsReached}
 use Rattle.hp_machine.specs.Wants.{Wants}
-use Rattle.hp_machine.specs.declared.outcome.Outcome.TheVariants.{Blocked}
 use Rattle.hp_alike.proofs.Twins.{opening_reached}
-use Rattle.hp_core.specs.State.{as_state, calls_of}
-use Rattle.hp_core.specs.Readers.{phase_of, life_of}
+use Rattle.hp_core.specs.State.{as_state}
 use Rattle.hp_core.specs.Runs.{IsOpening, Row, geometry}
-use Rattle.hp_core.specs.Waiting.{WaitsFor}
 use Rattle.hp_core.proofs.Holds.{reached_next}
 use Rattle.hp_text.specs.declared.script.Script.{Script}
 use Rattle.hp_watch.specs.Moments.{Moment}
@@ -23,9 +17,8 @@ use Rattle.hp_key.proofs.Calls.{own_counted}
 use Rattle.hp_key.proofs.Same.{same_key}
 use Rattle.hp_key.proofs.Tells.{cons_same, tells_wide}
 use Rattle.hp_explore.specs.Schedule.{Plan}
-use Rattle.hp_every.specs.Schedules.{Place, AnyTurn, Leads, first_place, plan_for}
+use Rattle.hp_every.specs.Schedules.{Place, Leads, first_place, plan_for}
 use Rattle.hp_every.specs.Places.{AreAlike, IsPlaceOf, place_words}
-use Rattle.hp_every.proofs.Looks.{LooksAlike, turn_there}
 
 -- a place that turns lead to is reached, and has the sizes of the first
 led : (plan : Plan) (first : Place) (moments : List Moment) (last : Place) → Leads plan first moments last

@@ -3,20 +3,17 @@ use Rattle.std.proofs.Common.{◌≡◌, ℕ, refl, ap, sym, ◌∙◌, subst, L
 use Rattle.std.specs.Prelude.{Bool, true, false, map, slice_index_or}
 use Rattle.std.specs.List.{flat_map}
 use Rattle.std.proofs.lemmas.List.{map-id}
-use Rattle.hp_core.specs.State.{CoreState, as_state}
+use Rattle.hp_core.specs.State.{CoreState}
 use Rattle.hp_watch.specs.Moments.{Moment}
 use Rattle.hp_key.specs.Numbers.{counted}
 use Rattle.hp_key.proofs.Tells.{Own, Tells, cons_same, tells_at, tells_counted, tells_flag, tells_wide}
 use Rattle.hp_key.proofs.Unpacking.{unpacked}
-use Rattle.hp_layers.specs.Layers.{IsAsGood}
-use Rattle.hp_machine.specs.State.{State}
-use Rattle.hp_sequential.specs.Renaming.{Alike}
 use Rattle.hp_hunt.specs.Watching.{AllKnow, Known, of_watch}
 use Rattle.hp_hunt.specs.declared.watching.Watch.{Watch}
 use Rattle.hp_every.specs.declared.turn.Turn.{Turn}
 use Rattle.hp_every.specs.Places.{IsPlaceOf, place_words}
 use Rattle.hp_every.specs.Schedules.{AnyTurn, Place, plan_for}
-use Rattle.hp_every.specs.Search.{AreAsGood, Question, GoesOn, HasTurns, IsPath, IsRun, PathState, search_key, search_words}
+use Rattle.hp_every.specs.Search.{AreAsGood, Question, HasTurns, IsPath, IsRun, PathState, search_key, search_words}
 use Rattle.hp_every.specs.Search.{call_number, calls_words, watch_words}
 use Rattle.hp_watch.specs.declared.call_word.CallWord.{CallWord}
 use Rattle.hp_watch.specs.declared.call_word.CallWord.TheVariants as call

@@ -1,6 +1,6 @@
 -- Moments of several tasks in another order tell the same answers.
-use Rattle.std.proofs.Common.{◌≡◌, ◌≢◌, ◌∙◌, ℕ, suc, ◌+◌, refl, ap, sym, subst, inl, inr, List, [], ◌∷◌, ◌++◌, length}
-use Rattle.std.specs.Prelude.{◌&&◌, ◌==◌, Bool, true, false, Option, None, IfSome, if◌then◌else◌}
+use Rattle.std.proofs.Common.{◌≡◌, ◌∙◌, ℕ, suc, ◌+◌, refl, ap, sym, subst, inl, inr, List, [], ◌∷◌, length}
+use Rattle.std.specs.Prelude.{◌&&◌, Bool, true, false, Option, None, IfSome, if◌then◌else◌}
 use Rattle.hp_base.specs.declared.event.Op.{Op}
 use Rattle.hp_base.specs.declared.event.Event.{Event}
 use Rattle.hp_base.specs.declared.event.Event.TheVariants.{Begin, Step, Kill, Resize}
@@ -9,10 +9,9 @@ use Rattle.hp_laws.proofs.Deciding.{never, same_of}
 use Rattle.hp_machine.specs.Events.{is_begun}
 use Rattle.hp_machine.specs.declared.outcome.Outcome.{Outcome}
 use Rattle.hp_machine.specs.declared.outcome.Outcome.TheVariants.{Begun, Moved, Blocked, Ended, Marked, Resized, Refused}
-use Rattle.hp_watch.specs.Calls.{asked_word, calls_begun, ended_by, ended_so, is_begin, last_call}
+use Rattle.hp_watch.specs.Calls.{asked_word, calls_begun, ended_by, is_begin, last_call}
 use Rattle.hp_watch.specs.Moments.{Moment, Once}
 use Rattle.hp_watch.specs.declared.call_word.CallWord.{CallWord}
-use Rattle.hp_watch.specs.declared.calls.EndedCall.{EndedCall}
 use Rattle.hp_hunt.specs.Conditions.{HasCount, IsAnswered, IsEnd, IsMetAt, IsSoughtEnd, IsStepOf}
 use Rattle.hp_hunt.specs.declared.condition.Comparison.{Comparison}
 use Rattle.hp_hunt.specs.declared.condition.Sought.TheVariants as sought

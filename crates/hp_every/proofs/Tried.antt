@@ -1,9 +1,9 @@
 -- What a search found that may be eager is said of all schedules.
-use Rattle.std.proofs.Common.{◌≡◌, ◌∙◌, ℕ, zero, suc, ◌+◌, ◌<◌, ◌≤◌, refl, ap, sym, subst, inl, inr, arith, List, [], ◌∷◌, ◌++◌, length}
+use Rattle.std.proofs.Common.{◌≡◌, ◌∙◌, ℕ, zero, suc, ◌+◌, ◌≤◌, refl, ap, sym, subst, inl, inr, arith, List, [], ◌∷◌, ◌++◌, length}
 use Rattle.std.proofs.lemmas.Bool.{cases_lt}
 use Rattle.std.proofs.Common.{length-append}
 use Rattle.std.proofs.lemmas.List.{append-nil, append_assoc}
-use Rattle.std.specs.Prelude.{◌⊎◌, ◌↔◌, All, Bool, Contains, None, true, false}
+use Rattle.std.specs.Prelude.{◌↔◌, All, Bool, None, true, false}
 use Rattle.hp_base.specs.declared.event.Event.{Event}
 use Rattle.hp_core.specs.State.{CoreState}
 use Rattle.hp_watch.specs.Moments.{Moment, events_of}
@@ -18,14 +18,14 @@ use Rattle.hp_every.specs.declared.turn.Turn.TheVariants.{Next}
 use Rattle.hp_every.specs.Eager.{AreTried, IsEager, IsKept, IsTried, MayBeEager, MayBegin, Tries}
 use Rattle.hp_every.specs.Schedules as schedules
 use Rattle.hp_every.specs.Schedules.{AnyTurn, Ends, Leads, MayTurn, NoScheduleMeets, Place, ScheduleMeets, first_place, plan_for}
-use Rattle.hp_every.specs.Search.{AreAsGood, AreBehind, GoesOn, HasTurns, IsPath, IsRun, MeetsHere, PathState, Question}
+use Rattle.hp_every.specs.Search.{AreAsGood, AreBehind, GoesOn, HasTurns, IsPath, IsRun, PathState, Question}
 use Rattle.hp_every.specs.Turns.{turn_of, turns_of}
 use Rattle.hp_every.proofs.Answers.{Doubly, all_knowing, decided, may_at, meets_as, met_as, no_schedule, path_of, reached_path, turn_count}
 use Rattle.hp_every.proofs.First.{begins_first}
 use Rattle.hp_every.proofs.Good.{by_path, follows_by, last_turn, onward, same_by_turns}
 use Rattle.hp_every.proofs.Looks.{LooksAlike, can_there}
 use Rattle.hp_every.proofs.Runs.{wanted_too}
-use Rattle.hp_every.proofs.Sames.{Same, joined, looks, may_of, place_is, same_then, turned_round}
+use Rattle.hp_every.proofs.Sames.{joined, looks, may_of, place_is}
 
 -- ---- the same task is eager in places that differ in the names of frames alone
 

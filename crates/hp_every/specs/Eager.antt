@@ -1,6 +1,7 @@
--- Eager begins. Where a task may begin its next call, a schedule to its end may as well begin it first: a search that is eager tries no other
--- turn there.
-use Rattle.std.specs.Prelude.{◌≡◌, ◌<◌, ◌+◌, ◌++◌, ◌∷◌, ◌↔◌, ℕ, Bool, true, false, List, None, All, Contains, length, slice_index_or}
+-- Eager begins. Where a task may begin its next call, a schedule to its end may as well begin it first: a search that is eager tries
+-- no other turn there.
+use Rattle.std.specs.Prelude.{◌≡◌, ◌<◌, ◌+◌, ◌++◌, ◌∷◌, ◌↔◌, ℕ, Bool, true, false, List, None, All, Contains}
+use Rattle.std.specs.Prelude.{length, slice_index_or}
 use Rattle.hp_machine.specs.declared.outcome.Life.TheVariants.{Alive}
 use Rattle.hp_machine.specs.declared.outcome.Outcome.TheVariants.{Begun}
 use Rattle.hp_core.specs.State.{CoreState}
@@ -50,24 +51,24 @@ pub record Tries (a : Question) (eager : Bool) (s t : PathState) : Type 0 where
   pub goes : GoesOn a s t
   pub tried : (x : HasTurns a s.turns) → IsTried (plan_for a.script) x.last eager goes.next
 
--- What is sought is found as well where a task begins its call sooner: an answer, unless a count is asked for as it comes; and a count at the
--- end. A task that waits, and calls that stand in phases, are sought at a moment, which may be missed.
+-- What is sought is found as well where a task begins its call sooner: an answer, unless a count is asked for as it comes; and a count
+-- at the end. A task that waits, and calls that stand in phases, are sought at a moment, which may be missed.
 abbrev pub IsKept : Sought → Type 0
 IsKept (sought.Answer s) = s.counted ≡ None
 IsKept (sought.Blocked t) = ⊥
 IsKept (sought.Meet t phase u other) = ⊥
 IsKept (sought.Final c) = Unit {0}
 
--- A search for these conditions may be eager: each is kept, and that at this place is one on a whole schedule, so that all are looked at where
--- no turn may be made.
+-- A search for these conditions may be eager: each is kept, and that at this place is one on a whole schedule, so that all are looked
+-- at where no turn may be made.
 pub record MayBeEager (conditions : List Condition) : Type 0 where
   pub kept : All (λ c. IsKept c.sought) conditions
   pub place : ℕ
   pub within : place < length conditions
   pub whole : (d : Condition) → IsFinal (slice_index_or conditions place d)
 
--- Another schedule from there to the same place begins with that task's next call. It has as many moments, and calls end in it with the same
--- answers, those of each task in the same order. What is kept is found in both or in neither, whatever happened before.
+-- Another schedule from there to the same place begins with that task's next call. It has as many moments, and calls end in it with the
+-- same answers, those of each task in the same order. What is kept is found in both or in neither, whatever happened before.
 pub record BeginsFirst (plan : Plan) (p : Place) (task : ℕ) (moments : List Moment) (last : Place) : Type 0 where
   pub begin : Moment
   pub next : Place

@@ -1,12 +1,11 @@
 -- Which turns are tried.
-use Rattle.std.proofs.Common.{◌≡◌, ◌∙◌, ℕ, ◌+◌, ◌<◌, ◌≤◌, refl, ap, sym, subst, inl, inr, arith, List, [], ◌∷◌, ◌++◌, length}
-use Rattle.std.proofs.lemmas.Bool.{cases_lt}
+use Rattle.std.proofs.Common.{◌≡◌, ◌∙◌, ℕ, refl, ap, sym, subst, inl, inr, arith, List, [], ◌∷◌, ◌++◌}
 use Rattle.std.proofs.lemmas.List.Elements.{Contains-push, Contains-push_cases}
-use Rattle.std.specs.Prelude.{◌↔◌, Bool, Contains, Option, None, Some, IfSome, true, false}
+use Rattle.std.specs.Prelude.{Bool, Contains, true, false}
 use Rattle.hp_explore.specs.Schedule.{Plan}
 use Rattle.hp_every.specs.declared.turn.Turn.{Turn}
 use Rattle.hp_every.specs.declared.turn.Turn.TheVariants.{Next}
-use Rattle.hp_every.specs.Eager.{AreTried, IsCalm, IsEager, IsTried, MayBegin}
+use Rattle.hp_every.specs.Eager.{AreTried, IsEager}
 use Rattle.hp_every.specs.Schedules.{MayTurn, Place}
 use Rattle.hp_every.specs.Turns.{AreAllTurns}
 use Rattle.hp_every.proofs.Tried.{one_eager}

@@ -143,8 +143,8 @@ IsWithin a limits (Met trace) = length trace.events.items < limits.turns
 IsWithin a limits (Cut turns) = ((turns ≡ limits.turns) × AreLong a turns) ⊎ IsTooMany a limits.states turns
     ⊎ IsTooHeavy a limits.bytes turns
 
--- A search of the schedules that are asked for, layer by layer from the schedule of no turn on, says this, and was cut at no other limits. It is
--- eager only where it may be.
+-- A search of the schedules that are asked for, layer by layer from the schedule of no turn on, says this, and was cut at no other limits.
+-- It is eager only where it may be.
 pub record IsSearched (a : Question) (eager : Bool) (limits : Limits) (verdict : Verdict PathState) : Type 0 where
   pub may : eager ≡ true → MayBeEager a.conditions
   pub first : PathState

@@ -1,5 +1,5 @@
-use Rattle.std.proofs.Common.{◌≡◌, ◌∙◌, ◌∷◌, ◌++◌, [], ℕ, List, ap, sym}
-use Rattle.std.specs.Prelude.{true, false}
+use Rattle.std.proofs.Common.{◌≡◌, ◌∙◌, ◌∷◌, ◌++◌, [], ℕ, List, ap}
+use Rattle.std.specs.Prelude.{true}
 use Rattle.hp_laws.proofs.Deciding.{clash}
 use Rattle.hp_every.specs.Eager.{IsEager}
 use Rattle.hp_every.specs.declared.turn.Turn.{Turn}
