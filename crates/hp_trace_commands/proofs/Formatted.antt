@@ -6,7 +6,9 @@ use Rattle.std.proofs.KnownBytes.{Appends-kept, Keeps-trans}
 use Rattle.hp_format.specs.declared.fault.LooseFault.{LooseFault}
 use Rattle.hp_format.specs.declared.fault.LooseFault.TheVariants.{Stream, Line}
 use Rattle.hp_program.proofs.Buffered.{all_of}
-use Rattle.hp_text.specs.declared.fault.ReplayFault.TheVariants.{Write}
+use Rattle.hp_text.specs.Writing.{IsWriteFault}
+use Rattle.hp_text.specs.declared.fault.ReplayFault.{ReplayFault}
+use Rattle.hp_text.specs.declared.fault.ReplayFault.TheVariants.{Read, Write}
 use Rattle.hp_trace_commands.specs.Formatting.{AnsweredFormat, Formats, FormatsPartly, NotFormatted, TellsFormat}
 
 -- what was written stays where the bytes are kept
@@ -39,9 +41,15 @@ module _ (from to before mid after : Option (List ℕ)) (kept : Keeps mid after)
 
   -- nothing was written, or a part
   some_kept : (fault : LooseFault) → NotFormatted fault from to before mid → Keeps before after ⊎ FormatsPartly from to before after
-  some_kept (Stream fault) (inl none) = inl (Keeps-trans before mid after none kept)
+  some_kept (Stream fault) (inl (read, none)) = inl (Keeps-trans before mid after none kept)
   some_kept (Stream fault) (inr (is, part)) = inr (part_kept part)
   some_kept (Line number why) (wrong, none) = inl (Keeps-trans before mid after none kept)
+
+  -- a fault of a stream is one of reading, of writing, or of memory
+  of_stream : (fault : ReplayFault) → NotFormatted (Stream fault) from to before mid → (fault ≡ Read) ⊎ IsWriteFault fault
+  of_stream fault (inl (inl is, none)) = inl is
+  of_stream fault (inl (inr is, none)) = inr (subst IsWriteFault (sym is) tt)
+  of_stream fault (inr (is, part)) = inr is
 
   held : (formatted : Result (Unit {0}) LooseFault) → OnOk formatted (Formats from to before mid)
       → IfErr formatted (λ fault. NotFormatted fault from to before mid) → Keeps before after ⊎ FormatsPartly from to before after
@@ -55,13 +63,13 @@ module _ (from to before mid after : Option (List ℕ)) (kept : Keeps mid after)
       → AnsweredFormat answer from to old new before (Some after)
   answered old new formatted answer (Err e) done stopped reads is not =
       subst (λ (r : Result (Unit {0}) LooseFault). AnsweredFormat r from to old new before (Some after)) (sym not)
-      (tt, held formatted done stopped)
+      (tt, inr tt, held formatted done stopped)
   answered old new (Ok y) answer (Ok x) done stopped reads is not =
       subst (λ (r : Result (Unit {0}) LooseFault). AnsweredFormat r from to old new before (Some after)) (sym is)
       (reads, whole_kept done)
   answered old new (Err (Stream kind)) answer (Ok x) done stopped reads is not =
       subst (λ (r : Result (Unit {0}) LooseFault). AnsweredFormat r from to old new before (Some after)) (sym is)
-      (reads, some_kept (Stream kind) stopped)
+      (reads, of_stream kind stopped, some_kept (Stream kind) stopped)
   answered old new (Err (Line number why)) answer (Ok x) done stopped reads is not =
       subst (λ (r : Result (Unit {0}) LooseFault). AnsweredFormat r from to old new before (Some after)) (sym is)
       (reads, stopped.0, Keeps-trans before mid after stopped.1 kept)

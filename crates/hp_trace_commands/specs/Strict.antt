@@ -10,6 +10,7 @@ use Rattle.hp_format.specs.declared.fault.LooseFault.{LooseFault}
 use Rattle.hp_format.specs.declared.fault.LooseFault.TheVariants.{Stream, Line}
 use Rattle.hp_text.specs.TextLines.{lines_of}
 use Rattle.hp_text.specs.Traces.{trace_text}
+use Rattle.hp_text.specs.declared.fault.ReplayFault.TheVariants.{Memory, Read}
 
 -- the words of a line and its end, where it has words
 abbrev pub plain_line : List ℕ → List ℕ
@@ -38,10 +39,10 @@ abbrev pub IsStrictOf : (text strict : List ℕ) → Type 0
 IsStrictOf text strict =
     (is_script text ≡ true) × (strict ≡ plain_lines (lines_of text)) ⊎ (is_script text ≡ false) × IsTraceOf text strict
 
--- a fault of a line is that of the first wrong line of the text
+-- a fault of a line is that of the first wrong line of the text, which is no script
 abbrev pub IsFaultIn : (text : List ℕ) → LooseFault → Type 0
 IsFaultIn text (Stream fault) = Unit {0}
-IsFaultIn text (Line number why) = IsWrongAt text number why
+IsFaultIn text (Line number why) = (is_script text ≡ false) × IsWrongAt text number why
 
 -- the reader's bytes, to their end, were a text that asks for it
 pub record ReadsStrict (from to : Option (List ℕ)) (strict : List ℕ) : Type 0 where
@@ -49,3 +50,15 @@ pub record ReadsStrict (from to : Option (List ℕ)) (strict : List ℕ) : Type 
   pub reads : Consumes from to text
   pub all : IsAtEnd to
   pub is : IsStrictOf text strict
+
+-- the reader's bytes, to their end, were a text with that fault
+pub record ReadsFault (from to : Option (List ℕ)) (fault : LooseFault) : Type 0 where
+  pub text : List ℕ
+  pub reads : Consumes from to text
+  pub all : IsAtEnd to
+  pub is : IsFaultIn text fault
+
+-- why they can't be read as a strict text: a read failed, there was no memory, or a line is wrong
+abbrev pub IsUnread : (from to : Option (List ℕ)) → LooseFault → Type 0
+IsUnread from to (Stream fault) = (fault ≡ Read) ⊎ (fault ≡ Memory)
+IsUnread from to (Line number why) = ReadsFault from to (Line number why)

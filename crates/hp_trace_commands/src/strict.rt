@@ -1,9 +1,9 @@
 //! The strict text that a text in the loose form asks for: a trace, or a script whose calls may wait.
 ghost use Rattle.std.specs.Prelude.{◌≡◌, ◌++◌, OnOk, IfOk, IfErr, codes, nat_eq};
 ghost use Rattle.std.specs.List.{starts_with};
-ghost use Rattle.hp_format.specs.Loose.{IsFaultRead, IsOfText, TellsLoose};
+ghost use Rattle.hp_format.specs.Loose.{IsOfText, TellsLoose};
 ghost use Rattle.hp_text.specs.TextLines.{lines_of};
-ghost use Rattle.hp_trace_commands.specs.Strict.{IsFaultIn, IsStrictOf, ReadsStrict, plain_line, plain_lines};
+ghost use Rattle.hp_trace_commands.specs.Strict.{IsFaultIn, IsStrictOf, IsUnread, ReadsStrict, plain_line, plain_lines};
 
 use hp_format::{LooseFault, read_loose, tidy};
 use hp_program::text_of;
@@ -63,7 +63,7 @@ fn strict_of(alloc: Global, text: &[u8]) -> Result<Vec<u8>, LooseFault>
 /// only people need, and not looked at; of a trace a wrong line is a fault.
 pub fn read_strict<R: Source>(alloc: Global, reader: &mut R) -> Result<Vec<u8>, LooseFault>
     ensures ok { IfOk result (λ strict. ReadsStrict (R.remaining reader.old) (R.remaining reader.new) strict.items) }
-    ensures bad { IfErr result (IsFaultRead (R.remaining reader.old) (R.remaining reader.new)) }
+    ensures bad { IfErr result (IsUnread (R.remaining reader.old) (R.remaining reader.new)) }
     ensures reads { TellsLoose result (R.failures reader.old) (R.failures reader.new) }
 {
     let text = read_all(alloc, reader)?;
