@@ -7,7 +7,9 @@ use Rattle.hp_judge.specs.Text.{findings_text}
 use Rattle.hp_picture.specs.declared.fault.PictureFault.{PictureFault}
 use Rattle.hp_picture.specs.declared.fault.PictureFault.TheVariants.{Stream, Line}
 use Rattle.hp_program.proofs.Buffered.{all_of}
-use Rattle.hp_text.specs.declared.fault.ReplayFault.TheVariants.{Write}
+use Rattle.hp_text.specs.Writing.{IsWriteFault}
+use Rattle.hp_text.specs.declared.fault.ReplayFault.{ReplayFault}
+use Rattle.hp_text.specs.declared.fault.ReplayFault.TheVariants.{Read, Write}
 use Rattle.hp_picture_commands.specs.Auditing.{AnsweredAudit, Audits, AuditsPartly, NotAudited, TellsAudit}
 
 -- what was written stays where the bytes are kept
@@ -50,9 +52,15 @@ module _ (from to before mid after : Option (List ℕ)) (kept : Keeps mid after)
 
   -- nothing was written, or a part
   some_kept : (fault : PictureFault) → NotAudited fault from to before mid → Keeps before after ⊎ AuditsPartly from to before after
-  some_kept (Stream fault) (inl none) = inl (Keeps-trans before mid after none kept)
+  some_kept (Stream fault) (inl (read, none)) = inl (Keeps-trans before mid after none kept)
   some_kept (Stream fault) (inr (is, part)) = inr (part_kept part)
   some_kept (Line number) (read, none) = inl (Keeps-trans before mid after none kept)
+
+  -- a fault of a stream is one of reading, of writing, or of memory
+  of_stream : (fault : ReplayFault) → NotAudited (Stream fault) from to before mid → (fault ≡ Read) ⊎ IsWriteFault fault
+  of_stream fault (inl (inl is, none)) = inl is
+  of_stream fault (inl (inr is, none)) = inr (subst IsWriteFault (sym is) tt)
+  of_stream fault (inr (is, part)) = inr is
 
   held : (audited : Result Bool PictureFault) → IfOk audited (λ right. Audits right from to before mid)
       → IfErr audited (λ fault. NotAudited fault from to before mid) → Keeps before after ⊎ AuditsPartly from to before after
@@ -66,13 +74,13 @@ module _ (from to before mid after : Option (List ℕ)) (kept : Keeps mid after)
       → AnsweredAudit answer from to old new before (Some after)
   answered old new audited answer (Err e) done stopped reads is not =
       subst (λ (r : Result Bool PictureFault). AnsweredAudit r from to old new before (Some after)) (sym not)
-      (tt, held audited done stopped)
+      (tt, inr tt, held audited done stopped)
   answered old new (Ok right) answer (Ok x) done stopped reads is not =
       subst (λ (r : Result Bool PictureFault). AnsweredAudit r from to old new before (Some after)) (sym is)
       (reads, whole_kept right done)
   answered old new (Err (Stream kind)) answer (Ok x) done stopped reads is not =
       subst (λ (r : Result Bool PictureFault). AnsweredAudit r from to old new before (Some after)) (sym is)
-      (reads, some_kept (Stream kind) stopped)
+      (reads, of_stream kind stopped, some_kept (Stream kind) stopped)
   answered old new (Err (Line number)) answer (Ok x) done stopped reads is not =
       subst (λ (r : Result Bool PictureFault). AnsweredAudit r from to old new before (Some after)) (sym is)
       (reads, stopped.0, Keeps-trans before mid after stopped.1 kept)
