@@ -1,8 +1,8 @@
 //! `hugepool step`: a pool that is driven line by line.
-ghost use Rattle.std.specs.Prelude.{◌≡◌};
+ghost use Rattle.std.specs.Prelude.{◌≡◌, IfErr};
 ghost use Rattle.std.specs.Option.{option_map};
 ghost use Rattle.hp_text.specs.Streams.{TellsReads};
-ghost use Rattle.hp_pool_commands.specs.Stepping.{AnsweredStep};
+ghost use Rattle.hp_pool_commands.specs.Stepping.{AnsweredStep, IsStepFault};
 
 use crate::laying::HELP;
 use crate::session::Session;
@@ -59,7 +59,8 @@ fn read_line<R: Source>(
     reader: &mut R,
     pending: &mut Vec<u8>,
 ) -> Result<Option<Vec<u8>>, ReplayFault>
-    ensures { TellsReads result (R.failures reader.old) (R.failures reader.new) }
+    ensures reads { TellsReads result (R.failures reader.old) (R.failures reader.new) }
+    ensures fault { IfErr result IsStepFault }
 {
     let mut piece = [0; PIECE];
     for _ in 0..u64::MAX {
@@ -93,7 +94,8 @@ fn answer_line<H: Files, R: Source, W: Sink>(
     lines: &mut Lines,
     writer: &mut W,
 ) -> Result<bool, ReplayFault>
-    ensures { TellsReads result (R.failures reader.old) (R.failures reader.new) }
+    ensures reads { TellsReads result (R.failures reader.old) (R.failures reader.new) }
+    ensures fault { IfErr result IsStepFault }
 {
     let Some(line) = read_line(alloc, reader, &mut lines.pending)? else {
         return Ok(false);
@@ -124,7 +126,8 @@ fn answer_lines<H: Files, R: Source, W: Sink>(
     lines: &mut Lines,
     writer: &mut W,
 ) -> Result<(), ReplayFault>
-    ensures { TellsReads result (R.failures reader.old) (R.failures reader.new) }
+    ensures reads { TellsReads result (R.failures reader.old) (R.failures reader.new) }
+    ensures fault { IfErr result IsStepFault }
 {
     session.push_first_prompt(&mut lines.text)?;
     write_text(writer, lines.text.as_bytes())?;
@@ -144,7 +147,8 @@ fn step_lines<H: Files, R: Source, W: Sink>(
     stepping: Stepping,
     writer: &mut W,
 ) -> Result<(), ReplayFault>
-    ensures { TellsReads result (R.failures reader.old) (R.failures reader.new) }
+    ensures reads { TellsReads result (R.failures reader.old) (R.failures reader.new) }
+    ensures fault { IfErr result IsStepFault }
 {
     let mut session = Session::new(stepping.file, stepping.is_typed);
     let mut lines = Lines {
