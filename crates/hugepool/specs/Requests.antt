@@ -29,7 +29,7 @@ use Rattle.hp_text.specs.declared.fault.ReplayFault.TheVariants.{Write}
 use Rattle.hp_format.specs.Loose.{loose_at}
 use Rattle.hp_format.specs.declared.fault.LooseFault.{LooseFault}
 use Rattle.hp_trace_commands.specs.Formatting.{AnsweredFormat, status_of_format}
-use Rattle.hp_trace_commands.specs.Strict.{ReadsStrict}
+use Rattle.hp_trace_commands.specs.Strict.{IsUnread, ReadsStrict}
 use Rattle.hugepool.specs.Status.{searches, status_of_loose}
 use Rattle.hp_trace_commands.specs.Traces.{AnsweredCheck, AnsweredDraw, AnsweredExplain, AnsweredJson, AnsweredPage}
 
@@ -103,22 +103,24 @@ Ends (Pool r) status from to old new before after = EndsPool r status from to ol
 Ends Audit status from to old new before after =
     EndsWith status_of_audit status (λ answer. AnsweredAudit answer from to old new before after)
 
--- how it ends where the input is in the loose form: as the request does with the strict text that it asks for; or it can't be read, and
--- nothing is written
+-- how it ends where the input is in the loose form: as the request does with the strict text that it asks for; or it can't be read, for that
+-- reason, and nothing is written
 abbrev pub EndsWithStrict : Request → (status : ℕ) → (from to : Option (List ℕ)) → (old new : ℕ) → (before : Option (List ℕ))
     → (after : Option (Option (List ℕ))) → Type 0
 EndsWithStrict r status from to old new before after =
     (strict : List ℕ) × ReadsStrict from to strict × (new ≡ old)
     × ((left : Option (List ℕ)) × (was failed : ℕ) × Ends r status (Some strict) left was failed before after)
 
-abbrev pub EndsUnread : Request → (status : ℕ) → (old new : ℕ) → (before : Option (List ℕ)) → (after : Option (Option (List ℕ))) → Type 0
-EndsUnread r status old new before after =
-    (fault : LooseFault) × (new ≡ loose_at fault old) × (status ≡ status_of_loose (searches r)) × IfThere after (λ held. Keeps before held)
+abbrev pub EndsUnread : Request → (status : ℕ) → (from to : Option (List ℕ)) → (old new : ℕ) → (before : Option (List ℕ))
+    → (after : Option (Option (List ℕ))) → Type 0
+EndsUnread r status from to old new before after =
+    (fault : LooseFault) × IsUnread from to fault × (new ≡ loose_at fault old) × (status ≡ status_of_loose (searches r))
+    × IfThere after (λ held. Keeps before held)
 
 abbrev pub EndsLoosely : Request → (status : ℕ) → (from to : Option (List ℕ)) → (old new : ℕ) → (before : Option (List ℕ))
     → (after : Option (Option (List ℕ))) → Type 0
 EndsLoosely r status from to old new before after =
-    EndsWithStrict r status from to old new before after ⊎ EndsUnread r status old new before after
+    EndsWithStrict r status from to old new before after ⊎ EndsUnread r status from to old new before after
 
 -- the words ask for help
 abbrev pub IsHelp : Error → Type 0
