@@ -1,11 +1,12 @@
 -- The status with which the program ends.
-use Rattle.std.specs.Prelude.{ℕ, Bool, true, false, Result, Ok, Err}
+use Rattle.std.specs.Prelude.{ℕ, ◌==◌, Bool, true, false, Result, Ok, Err, if◌then◌else◌}
 use Rattle.hp_command.specs.declared.request.Request.{Request}
 use Rattle.hp_command.specs.declared.request.Request.TheVariants as request
 use Rattle.hp_command.specs.declared.request.ScriptRequest.{ScriptRequest}
 use Rattle.hp_command.specs.declared.request.ScriptRequest.TheVariants as script
 use Rattle.hugepool.specs.declared.stop.Stop.{Stop}
-use Rattle.hugepool.specs.declared.stop.Stop.TheVariants.{Usage, Replay, Work, Missed, Loose, Untold, UntoldLoose, Picture, Cut, CutTable}
+use Rattle.hugepool.specs.declared.stop.Stop.TheVariants.{Usage, Replay, Work, Missed, Loose, Untold, UntoldLoose, Picture}
+use Rattle.hugepool.specs.declared.stop.Stop.TheVariants.{Cut, CutTable, Long, LongTable}
 use Rattle.hp_pool_commands.specs.Working.{work_status}
 
 -- 3 where a limit was reached before an answer; 2 where the words ask for nothing, and where an audit or a search couldn't tell; 1 after
@@ -21,6 +22,15 @@ status_of (UntoldLoose fault) = 2
 status_of (Picture fault) = 2
 status_of (Cut turns) = 3
 status_of (CutTable turns) = 3
+status_of Long = 3
+status_of LongTable = 3
+
+-- why a search that was cut at so many turns ends: no search goes on to a million, whatever its other limits are
+abbrev pub cut_at : (turns : ℕ) → Stop
+cut_at turns = if turns == 1000000 then Long else Cut turns
+
+abbrev pub table_cut_at : (turns : ℕ) → Stop
+table_cut_at turns = if turns == 1000000 then LongTable else CutTable turns
 
 -- and 0 where what was asked is done
 abbrev pub status_at : Result (Unit {0}) Stop → ℕ

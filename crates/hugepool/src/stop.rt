@@ -1,12 +1,12 @@
 //! Why the program ends with another status than 0.
-ghost use Rattle.std.specs.Prelude.{◌≡◌};
+ghost use Rattle.std.specs.Prelude.{◌≡◌, IfSome, false};
 ghost use Rattle.hp_picture_commands.specs.Auditing.{status_of_audit};
 ghost use Rattle.hp_pool_commands.specs.Working.{status_of_work};
 ghost use Rattle.hp_program.specs.Answers.{status_of_runs, status_of_text};
 ghost use Rattle.hp_script_commands.specs.Hunting.{status_of_hunt};
 ghost use Rattle.hp_script_commands.specs.Searching.{status_of_every};
 ghost use Rattle.hp_trace_commands.specs.Formatting.{status_of_format};
-ghost use Rattle.hugepool.specs.Status.{searches, status_at, status_of, status_of_loose, status_unopened};
+ghost use Rattle.hugepool.specs.Status.{cut_at, searches, status_at, status_of, status_of_loose, status_unopened, table_cut_at};
 
 use hp_command::{Request, ScriptRequest};
 use hp_format::LooseFault;
@@ -40,7 +40,16 @@ pub(crate) enum Stop {
     /// The limits ran out: endings of schedules of as many events may be missing.
     #[error("hugepool: the limit of --states or --memory was reached: not all schedules of {0} and more events were looked at\n")]
     CutTable(u32),
+    /// Schedules go on up to the most events that one may have: none that is shorter meets the conditions.
+    #[error("hugepool: the limit of 1000000 events was reached: no schedule of fewer events meets all conditions\n")]
+    Long,
+    /// They do: endings of schedules of as many events may be missing.
+    #[error("hugepool: the limit of 1000000 events was reached: not all schedules of as many events were looked at\n")]
+    LongTable,
 }
+
+/// No schedule has as many turns.
+const MOST_TURNS: u32 = 1_000_000;
 
 /// What was asked for, and isn't so.
 #[derive(Clone, Copy, Debug, PartialEq, Eq, Error)]
@@ -72,7 +81,7 @@ impl Stop {
     {
         match self {
             Stop::Usage(_) | Stop::Untold(_) | Stop::UntoldLoose(_) | Stop::Picture(_) => 2,
-            Stop::Cut(_) | Stop::CutTable(_) => 3,
+            Stop::Cut(_) | Stop::CutTable(_) | Stop::Long | Stop::LongTable => 3,
             Stop::Replay(_) | Stop::Missed(_) | Stop::Loose(_) => 1,
             Stop::Work(fault) => fault.status(),
         }
@@ -110,12 +119,35 @@ pub(crate) fn stop_of_hunt(answer: Result<bool, ReplayFault>, missed: Missed) ->
     }
 }
 
+/// Why a search among all schedules ends that was cut at so many turns.
+fn cut_at(turns: u32) -> Stop
+    ensures { result ≡ cut_at turns }
+{
+    if turns == MOST_TURNS {
+        Stop::Long
+    } else {
+        Stop::Cut(turns)
+    }
+}
+
+/// The same of a table of their endings.
+fn table_cut_at(turns: u32) -> Stop
+    ensures { result ≡ table_cut_at turns }
+{
+    if turns == MOST_TURNS {
+        Stop::LongTable
+    } else {
+        Stop::CutTable(turns)
+    }
+}
+
 /// Of a search among all schedules.
 pub(crate) fn stop_of_every(answer: Result<bool, ReplayFault>, cut: Option<u32>) -> Result<(), Stop>
-    ensures { status_at result ≡ status_of_every cut answer }
+    ensures status { status_at result ≡ status_of_every cut answer }
+    ensures limit { IfSome cut (λ turns. answer ≡ Ok false → result ≡ Err (cut_at turns)) }
 {
     match (answer, cut) {
-        (Ok(false), Some(turns)) => Err(Stop::Cut(turns)),
+        (Ok(false), Some(turns)) => Err(cut_at(turns)),
         (answer, _) => stop_of_hunt(answer, Missed::Schedules),
     }
 }
@@ -126,10 +158,11 @@ pub(crate) fn stop_of_table(
     cut: Option<u32>,
     missed: Missed,
 ) -> Result<(), Stop>
-    ensures { status_at result ≡ status_of_every cut answer }
+    ensures status { status_at result ≡ status_of_every cut answer }
+    ensures limit { IfSome cut (λ turns. answer ≡ Ok false → result ≡ Err (table_cut_at turns)) }
 {
     match (answer, cut) {
-        (Ok(false), Some(turns)) => Err(Stop::CutTable(turns)),
+        (Ok(false), Some(turns)) => Err(table_cut_at(turns)),
         (answer, _) => stop_of_hunt(answer, missed),
     }
 }
