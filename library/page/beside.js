@@ -40,7 +40,7 @@ function showBeside() {
   const place = partingOf(kept.lines, trace.lines);
   $("parting").textContent = partingWords(place);
   setRows(besideList, Math.max(kept.lines.length, trace.lines.length));
-  besideList.scroller.scrollTop = Math.max(0, (place - 3) * LINE_HEIGHT);
+  scrollRows(besideList, (place - 3) * LINE_HEIGHT);
 }
 
 function listenToBeside() {

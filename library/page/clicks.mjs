@@ -21,6 +21,7 @@ const text = (selector) => `document.querySelector(${JSON.stringify(selector)}).
 const card = (task) => `[aria-label="Task ${task}"]`;
 const isOff = (selector) => `(document.querySelector(${JSON.stringify(selector)}).getAttribute("aria-disabled") === "true")`;
 const turn = (kind_, task) => `[aria-label="${kind_} task ${task}"]`;
+const turnOf = (kind_, task) => `document.querySelector('${turn(kind_, task)}').click();`;
 const now = (start) => `${text("#now")}.startsWith(${JSON.stringify(start)})`;
 const isAt = (at, count) => `${text("#now")}.includes("(event ${at} of ${count})")`;
 
@@ -376,6 +377,7 @@ async function tryBeside() {
 
 const took = (does) => browser.run(`(async () => { const began = performance.now(); ${does}; document.body.offsetHeight; return performance.now() - began; })()`);
 const least = (times) => Math.min(...times).toFixed(0);
+const midst = (times) => [...times].sort((one, other) => one - other)[times.length >> 1].toFixed(0);
 const most = (times) => Math.max(...times).toFixed(0);
 
 /** 64 tasks, 61 of which wait for the one that holds the lock; and 20,000 events. */
@@ -387,30 +389,55 @@ function longTrace() {
   return lines;
 }
 
-async function tryLong() {
-  await open("");
-  const loads = [];
+const press = (id) => `document.getElementById("${id}").click()`;
+const slide = (place) => `const it = document.getElementById("scrub"); it.value = ${place}; it.dispatchEvent(new Event("input"))`;
+
+/** Moves from end to end, by one event, and to moments anywhere. */
+async function tryMoved() {
+  const places = Array.from({ length: 20 }, (_, at) => (at * 7919 + 11) % 20_000);
+  const does = [...Array(4).fill(["back", "on", "first", "last", "back", "first", "on", "on", "last"]).flat().map(press), ...places.map(slide)];
+  const times = [];
+  for (const it of does) times.push(await took(it));
+  return times;
+}
+
+/** Random turns at the end, in the midst and near the beginning, each in the trace that was opened. */
+async function tryTurned() {
+  const times = [];
+  for (const place of [19_000, 10_000, 10_000, 10_000, 1_000, 300, 100, 64, 3, 1]) {
+    await act(slide(place));
+    for (let tries = 0; tries < 2; tries++) times.push(await took(press("chance")));
+    await act(`${press("undo")}; ${press("undo")};`);
+  }
+  return times;
+}
+
+async function tryLoads() {
+  const times = [];
   for (let tries = 0; tries < 3; tries++) {
     await type(["pool 4 1 4 2"]);
     await expect("a pool alone", isAt(0, 0));
-    loads.push(await browser.run(`(async () => { const it = document.getElementById("text"); it.value = ${JSON.stringify(longTrace().join("\n"))};
+    times.push(await browser.run(`(async () => { const it = document.getElementById("text"); it.value = ${JSON.stringify(longTrace().join("\n"))};
     it.getBoundingClientRect(); const began = performance.now(); it.dispatchEvent(new InputEvent("input", { inputType: "insertFromPaste" }));
     while (!document.getElementById("now").textContent.includes("(event 20000 of 20000)") && performance.now() < began + 20000) await new Promise((done) => setTimeout(done, 5));
     await new Promise((done) => requestAnimationFrame(() => setTimeout(done))); return performance.now() - began; })()`));
   }
+  return times;
+}
+
+async function tryLong() {
+  await open("");
+  const loads = await tryLoads();
   await expect("20,000 events", isAt(20_000, 20_000));
   await expect("those that wait are folded", `[...document.querySelectorAll(".fold summary")].some((it) => it.textContent === "62 wait for task 55: lock of file 0")`);
   await browser.run(`new Promise((done) => setTimeout(done, 500))`);
-  const moves = [];
-  for (const id of ["back", "on", "first", "last", "back", "back", "back"]) moves.push(await took(`document.getElementById("${id}").click()`));
-  await act(`const it = document.getElementById("scrub"); it.value = 19000; it.dispatchEvent(new Event("input"));`);
-  const turns = [];
-  for (let tries = 0; tries < 5; tries++) turns.push(await took(`document.getElementById("chance").click()`));
-  const midst = [];
-  for (let tries = 0; tries < 5; tries++) {
-    await act(`const it = document.getElementById("scrub"); it.value = 10000; it.dispatchEvent(new Event("input"));`);
-    midst.push(await took(`document.getElementById("chance").click()`));
-  }
+  const moves = await tryMoved();
+  const turns = await tryTurned();
+  await expect("turns that are undone", `${text("#now")}.includes("(event 1 of 20000)")`);
+  await act(slide(0));
+  await expect("those that do nothing are folded", `${text("#folds")} === "64 idle, with 0 mappings and 0 translated pages" && document.querySelector("#tasks .task") === null`);
+  await act(slide(10_000));
+  await browser.click("#chance");
   await expect("a turn in the midst", isAt(10_001, 10_001));
   await browser.click("#undo");
   await expect("which is undone", `${text("#now")}.includes("(event 10000 of ")`);
@@ -418,8 +445,48 @@ async function tryLong() {
   await expect("rows of the explanation", `document.querySelectorAll("#explanation .row").length > 5 && document.querySelector("#explanation [aria-current]") !== null`);
   const texts = await browser.run(`(async () => { document.getElementById("back").click(); let most = 0; let last = performance.now();
     for (const end = last + 800; last < end; ) { await new Promise((done) => setTimeout(done)); const now = performance.now(); most = Math.max(most, now - last); last = now; } return most; })()`);
-  console.log(`page: ${browser.name}: 20,000 events of 64 tasks are there after ${least(loads)} to ${most(loads)} ms; a move takes ${least(moves)} to ${most(moves)} ms, `
-    + `a random turn ${least(turns)} to ${most(turns)} ms, one in the midst ${least(midst)} to ${most(midst)}; texts hold the page for ${texts.toFixed(0)} ms`);
+  console.log(`page: ${browser.name}: 20,000 events of 64 tasks are there after ${least(loads)} to ${most(loads)} ms; a move takes ${midst(moves)} ms, at most ${most(moves)}; `
+    + `a random turn ${midst(turns)} ms, at most ${most(turns)}; texts hold the page for ${texts.toFixed(0)} ms`);
+}
+
+/** A pool of many tasks: those that are alike are folded, cards out of sight follow, and the keyboard stays. */
+async function tryFolds() {
+  const begin = (task) => `document.querySelector('${card(task)} .go:not([hidden])').click();`;
+  await open("#64-backends-one-segment");
+  await expect("tasks with a call to begin have their cards", `document.querySelectorAll("#tasks > .task").length === 64 && document.querySelector("#folds").children.length === 0`);
+  await expect("cards out of sight follow", `${text(`${card(64)} .go:not([hidden])`)}.startsWith("begin 64 map ")`);
+  await act(`${begin(1)} ${turnOf("step", 1)} ${[2, 3, 4].map(begin).join(" ")}`);
+  await expect("three that wait have their cards", `document.querySelectorAll("#tasks > .task.is-blocked").length === 3`);
+  await act(`document.querySelector('${card(5)} .go:not([hidden])').focus();`);
+  await browser.press("Enter");
+  await expect("the fourth is folded with them, and the keyboard is at its line", `document.activeElement.tagName === "SUMMARY" && document.activeElement.textContent === "4 wait for task 1: lock of file 0"`);
+  await browser.press("Enter");
+  await expect("a fold that is opened", `document.querySelectorAll(".fold .task").length === 4 && ${text(`${card(5)} .waits`)} === "waits for task 1: lock of file 0, since line 7"`);
+  await act(`document.querySelector('${card(5)} .link').focus();`);
+  await browser.press("Enter");
+  await expect("a moment behind its wait keeps the keyboard in the card", `${isAt(6, 6)} && document.activeElement.closest(".task")?.dataset.task === "5"`);
+  await browser.press("ArrowLeft");
+  await browser.press("ArrowLeft");
+  await expect("it is a card again, as are the others", `${isAt(4, 6)} && document.querySelectorAll("#folds .fold").length === 0 && document.activeElement.closest(".task")?.dataset.task === "5"`);
+}
+
+/** The text in its field follows a little later, but not what is typed there. */
+async function tryText() {
+  const has = (lines) => `document.getElementById("text").value.startsWith(${JSON.stringify(lines.join("\n"))})`;
+  await open("#two-maps-one-lock@3");
+  await act(`document.getElementById("editing").open = true;`);
+  await expect("the trace is in its field", has(["pool 4 1 4 2", "begin 1 map 0 0 2"]));
+  await browser.click(turn("kill", 1));
+  await expect("a turn follows", `document.getElementById("text").value.endsWith("kill 1\n")`);
+  await type(["# mine", "pool 4 1 4 2", "begin 1 map 0 0 2"]);
+  await expect("what is typed is read", isAt(1, 1));
+  await act(`document.getElementById("text").blur();`);
+  await browser.click("#back");
+  await act(`document.getElementById("text").focus();`);
+  await expect("and stays as it is typed", has(["# mine", "pool"]));
+  await browser.click(turn("kill", 2));
+  await act(`document.getElementById("text").focus();`);
+  await expect("a turn replaces it, at once where somebody types", `document.getElementById("text").value === "pool 4 1 4 2\nkill 2\n"`);
 }
 
 /** (one browser can be made to lack something before the page is there) */
@@ -468,7 +535,7 @@ async function tryRoles() {
 const asked = process.env.TRIES?.split(" ").map((it) => `try${it}`);
 await inBrowsers(async (...it) => {
   [browser, kind] = it;
-  const all = [tryMoves, tryPicture, tryEvents, tryFields, tryTexts, tryWaits, tryPlaying, tryAddresses, tryFiles, tryConditions, tryMinimizing, tryFinding, tryStops, tryStopped, tryBeside, tryLong, tryRoles, tryMissing, tryLooks];
+  const all = [tryMoves, tryPicture, tryEvents, tryFields, tryTexts, tryWaits, tryPlaying, tryAddresses, tryFiles, tryConditions, tryMinimizing, tryFinding, tryStops, tryStopped, tryBeside, tryFolds, tryText, tryLong, tryRoles, tryMissing, tryLooks];
   await open("");
   const finds = await browser.run(`!document.getElementById("find").hidden`);
   const left = finds ? [] : [tryFinding, tryStops, tryStopped];

@@ -5,9 +5,12 @@ const MOST_ADDRESS = 1_000_000;
 // no trace of an address or a file has more bytes
 const MOST_BYTES = 16_000_000;
 const SAYING = 6000;
+const PUTTING = 250;
 
 let typing = 0;
+let putting = 0;
 let saying = 0;
+let isTextOld = true;
 
 function say(text) {
   $("said").textContent = text;
@@ -23,9 +26,17 @@ function tell(why) {
 
 // ---- typing
 
-/** The text in its field, while somebody looks at it. */
+/** The text follows in its field once nothing else is asked for, since browsers take long for a long one, or when somebody types there; what is
+ *  typed there stays as it is. */
 function showText() {
-  if ($("editing").open && document.activeElement !== $("text")) $("text").value = textOf(trace.lines);
+  isTextOld = document.activeElement !== $("text");
+  clearTimeout(putting);
+  if (isTextOld && $("editing").open) putting = setTimeout(putText, PUTTING);
+}
+
+function putText() {
+  if (isTextOld) $("text").value = textOf(trace.lines);
+  isTextOld = false;
 }
 
 /** Takes what is typed once no key is pressed for a while, and what is pasted at once. */
@@ -40,6 +51,8 @@ async function copyText(text, done) {
     say(done);
   } catch {
     $("editing").open = true;
+    clearTimeout(putting);
+    isTextOld = false;
     $("text").value = text;
     $("text").select();
     say("It is selected in the field below: copy it from there.");
@@ -127,6 +140,7 @@ function listenToFiles() {
   $("save").onclick = () => saveAs(nameOf("trace"), textOf(trace.lines), "text/plain");
   $("save-picture").onclick = () => saveAs(nameOf("svg"), library.text("draw", soFar(trace.count)), "image/svg+xml");
   $("text").oninput = typed;
-  $("editing").ontoggle = showText;
+  $("text").onfocus = putText;
+  $("editing").ontoggle = () => $("editing").open && putText();
   window.addEventListener("hashchange", followAddress);
 }

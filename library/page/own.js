@@ -6,10 +6,6 @@ const MOST_EVENTS = 20_000;
 const MOST_PAST = 1000;
 const MOST_PAST_LINES = 400_000;
 
-// so many events times tasks are drawn at once; more follow when nothing else is asked for so many milliseconds
-const AT_ONCE = 100_000;
-const LATER = 120;
-
 let library, words;
 /** The lines, what came of each event, how many events were made, the first bad line, and the places of each task's begins. */
 const trace = { lines: [], outcomes: [], count: 0, fault: null, begins: new Map() };
@@ -21,9 +17,6 @@ let example = "";
 let script = scriptOf([]);
 let past = [];
 let future = [];
-/** How many events the picture has, and when it is to have more. */
-let drawn = 0;
-let drawing = 0;
 
 // ---- reading
 
@@ -36,8 +29,7 @@ function faultOf(lines) {
 /** Nothing is shown of lines that begin with no header, or are too many. */
 function closeTrace(fault) {
   library.end();
-  clearTimeout(drawing);
-  drawn = 0;
+  forgetDrawn(0);
   trace.begins.clear();
   Object.assign(trace, { outcomes: [], count: 0, fault });
 }
@@ -61,30 +53,6 @@ function makeEvents(keep, count) {
   const events = lines.slice(keep + 1, count + 1).map((it) => words.event(it));
   trace.outcomes.length = keep;
   for (const outcome of library.extend(keep, events)) trace.outcomes.push(words.outcome(outcome));
-}
-
-/** Draws the events that aren't drawn yet. To tell of them the library makes all events once more, and looks for whom each task waits. */
-function drawEvents() {
-  const { count } = trace;
-  const told = library.objects(textOf(trace.lines.slice(0, count + 1)), drawn + 2, count - drawn);
-  const run = drawn === 0 ? readRun(told) : view.run;
-  if (drawn > 0) extendRun(run, drawn, linesOf(told).slice(1));
-  drawn = count;
-  showRun(run);
-}
-
-/** Draws the events behind so many that are drawn; in a long run of many tasks a little later, so that a turn is there at once. */
-function followEvents(keep) {
-  drawn = keep;
-  clearTimeout(drawing);
-  if (keep === 0 || trace.count * library.run.config.tasks <= AT_ONCE) return drawEvents();
-  extendRun(view.run, keep, []);
-  showRun(view.run);
-  drawing = setTimeout(() => {
-    drawEvents();
-    show();
-  }, LATER);
-  return undefined;
 }
 
 /** Runs the lines, of which so many are as they were. Lines that are known to be allowed aren't checked. */

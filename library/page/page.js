@@ -21,8 +21,6 @@ function makeLine(place) {
   const className = isBad ? "row bad" : place > trace.count ? "row unmade" : "row";
   const row = element("div", { className, role: "option", title: `${lines[place]}: ${outcome}` }, ...parts);
   if (outcome.startsWith("blocked")) parts[2].className = "blocked";
-  row.setAttribute("aria-setsize", lines.length);
-  row.setAttribute("aria-posinset", place + 1);
   return row;
 }
 
@@ -34,6 +32,8 @@ function showFault() {
 
 /** Shows the trace, of which so many lines are as they were, and the moment. */
 function showTrace(kept) {
+  $("state").hidden = $("picture-part").hidden = !library.run;
+  if (library.run) showPlace();
   setRows(list, Math.min(trace.lines.length, MOST_EVENTS + 2), Math.max(0, kept - 1));
   showFault();
   showText();
@@ -41,17 +41,18 @@ function showTrace(kept) {
   showSearches();
   forgetTexts();
   showBeside();
-  $("state").hidden = $("picture-part").hidden = !library.run;
-  if (library.run) show();
+  if (library.run) showMoment();
   else showMoves();
 }
 
 // ---- the moment
 
-function show() {
+/** Shows the moment in the picture, which of a long run may follow later. It looks how far it is scrolled: this comes first, while the page is
+ *  laid out. */
+const showPlace = () => showPicked(Math.min(at, view.run.count) - 1);
+
+function showMoment() {
   const pool = library.poolNumbers();
-  // (what looks how far something is scrolled comes first, while the page is laid out)
-  showPicked(Math.min(at, view.run.count) - 1); // (the picture of a long run may follow later)
   markRow(list, at);
   if (kept !== null) markRow(besideList, at);
   showMoves();
@@ -64,10 +65,24 @@ function show() {
   later();
 }
 
+function show() {
+  showPlace();
+  showMoment();
+}
+
 function showNow() {
   const line = () => element("code", { textContent: trace.lines[at] });
   const title = at === 0 ? ["Before the first event"] : [`After line ${at + 1}, `, line(), `: ${trace.outcomes[at - 1]}`];
   $("now").replaceChildren(...title, element("span", { className: "soft", textContent: ` (event ${at} of ${trace.count})` }));
+}
+
+/** What parts of the page say: one that is to say the same is left alone. */
+const partWords = new Map();
+
+function isNews(part, words) {
+  const is = partWords.get(part) !== words;
+  partWords.set(part, words);
+  return is;
 }
 
 function showPool(pool) {
@@ -82,6 +97,7 @@ function showPool(pool) {
     ["calls in flight", pool.calls],
     ["audit", found === 0 ? "ok" : `wrong: ${words.findings[found]}`, found === 0 ? "good" : "hot"],
   ];
+  if (!isNews("counts", counts.join())) return;
   $("counts").replaceChildren(
     ...counts.map(([name, count, className = ""]) =>
       element("div", {}, element("dt", { textContent: name }), element("dd", { textContent: count, className })),
@@ -105,9 +121,10 @@ function showBar({ frames, free, resv, owed }) {
 function showFiles(count) {
   const rows = Array.from({ length: count }, (_, file) => {
     const { size, reserved, pages, regions, changes, spare } = library.file(file);
-    return element("tr", {}, ...[file, size, reserved, pages, regions, changes, spare].map((it) => element("td", { textContent: it })));
+    return [file, size, reserved, pages, regions, changes, spare];
   });
-  $("file-rows").replaceChildren(...rows);
+  if (!isNews("files", rows.join(";"))) return;
+  $("file-rows").replaceChildren(...rows.map((row) => element("tr", {}, ...row.map((it) => element("td", { textContent: it })))));
 }
 
 // ---- keys
@@ -181,10 +198,6 @@ function listenToPage() {
   };
   $("clear").onclick = () => change(1, [], 0);
   $("script").onclick = () => takeScript(linesOf(scriptText()), "");
-  $("more").onclick = () => {
-    showsAll = !showsAll;
-    showTasks();
-  };
   $("ask").onclick = () => showHelp($("help").hidden);
   KEYS["?"] = $("ask").onclick;
   document.addEventListener("keydown", pressMore);

@@ -3,13 +3,18 @@
 // so many rows above and below those in sight are there, too
 const OVER = 8;
 
-/** A list in a box that scrolls. `make` makes the row of a place. With `picks` rows can be picked, by a click and by keys. */
+/** A list in a box that scrolls. `make` makes the row of a place. With `picks` rows can be picked, by a click and by keys. How far the box is
+ *  scrolled, `top`, and how tall it is, `tall`, are kept: to ask has the browser lay the page out, where something changed before. */
 function newRows(scroller, height, make, picks) {
   const room = element("div", { className: "rows", role: "presentation" });
-  const list = { scroller, room, height, make, count: 0, at: -1, rows: new Map(), mark: picks ? "aria-selected" : "aria-current" };
+  const list = { scroller, room, height, make, count: 0, at: -1, top: 0, tall: 0, rows: new Map(), mark: picks ? "aria-selected" : "aria-current" };
   scroller.replaceChildren(room);
-  scroller.addEventListener("scroll", () => fillRows(list), { passive: true });
-  new ResizeObserver(() => fillRows(list)).observe(scroller);
+  const look = () => {
+    lookAt(list);
+    fillRows(list);
+  };
+  scroller.addEventListener("scroll", look, { passive: true });
+  new ResizeObserver(look).observe(scroller);
   if (picks) {
     room.addEventListener("click", (event) => picks(Math.floor((event.clientY - room.getBoundingClientRect().top) / height)));
     scroller.addEventListener("keydown", (event) => moveRows(list, event, picks));
@@ -20,6 +25,8 @@ function newRows(scroller, height, make, picks) {
 function makeRow(list, place) {
   const row = list.make(place);
   row.id = `${list.scroller.id}-${place}`;
+  row.setAttribute("aria-setsize", list.count);
+  row.setAttribute("aria-posinset", place + 1);
   row.style.top = `${place * list.height}px`;
   if (place === list.at) row.setAttribute(list.mark, "true");
   row.classList.toggle("is-behind", place > list.at);
@@ -27,12 +34,22 @@ function makeRow(list, place) {
   return row;
 }
 
-/** How far the list is scrolled, and how much of it is in sight. Where rows changed since, the browser lays the page out for this. */
-const sightOfRows = ({ scroller }) => ({ top: scroller.scrollTop, tall: scroller.clientHeight });
+function lookAt(list) {
+  list.top = list.scroller.scrollTop;
+  list.tall = list.scroller.clientHeight;
+}
+
+/** Scrolls the list to there, or as far as it goes. */
+function scrollRows(list, top) {
+  const { scroller, height, count } = list;
+  if (list.tall === 0) lookAt(list);
+  const wanted = Math.max(0, Math.min(top, count * height - list.tall));
+  if (wanted !== list.top) scroller.scrollTop = list.top = wanted;
+}
 
 /** Makes the rows that come into sight, and takes the others away. */
-function fillRows(list, { top, tall } = sightOfRows(list)) {
-  const { height, count, rows, room } = list;
+function fillRows(list) {
+  const { height, count, rows, room, top, tall } = list;
   const from = Math.max(0, Math.floor(top / height) - OVER);
   const to = Math.min(count, Math.ceil((top + tall) / height) + OVER);
   for (const [place, row] of rows) {
@@ -49,23 +66,25 @@ function fillRows(list, { top, tall } = sightOfRows(list)) {
 function setRows(list, count, from = 0) {
   list.count = count;
   for (const [place, row] of list.rows) {
-    if (place < from) continue;
-    row.remove();
-    list.rows.delete(place);
+    if (place < from) row.setAttribute("aria-setsize", count);
+    else {
+      row.remove();
+      list.rows.delete(place);
+    }
   }
   list.room.style.height = `${count * list.height}px`;
+  scrollRows(list, list.top); // (a list with fewer rows is scrolled back)
   fillRows(list);
 }
 
 /** Marks a row, and brings it into sight. */
 function markRow(list, place) {
   const { scroller, height } = list;
-  const { top, tall } = sightOfRows(list);
-  const wanted = Math.max(Math.min(top, place * height), (place + 1) * height - tall);
-  if (wanted !== top) scroller.scrollTop = wanted;
+  if (list.tall === 0) lookAt(list);
+  scrollRows(list, Math.max(Math.min(list.top, place * height), (place + 1) * height - list.tall));
   list.rows.get(list.at)?.removeAttribute(list.mark);
   list.at = place;
-  fillRows(list, { top: wanted, tall });
+  fillRows(list);
   for (const [other, row] of list.rows) row.classList.toggle("is-behind", other > place);
   list.rows.get(place)?.setAttribute(list.mark, "true");
   if (list.mark === "aria-selected") scroller.setAttribute("aria-activedescendant", `${scroller.id}-${place}`);

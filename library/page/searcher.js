@@ -1,4 +1,5 @@
-// What searches, in a worker with a module of its own, so that the page never waits: it tells how far it is, and what it found.
+// What searches, in a worker with a module of its own, so that the page never waits: it tells how far it is, and what it found. Of a long run
+// it tells of events.
 
 import { Library } from "./pool.js";
 
@@ -39,10 +40,16 @@ export function searched(library, kind, asked) {
   return { find: findRun, every: findEvery, minimize }[kind](library, asked);
 }
 
-/** One search is asked for. */
+/** The module, which is made when something is asked for first. */
+let made = null;
+
+/** One search is asked for, or what there is to tell of events of a trace, which is asked of one worker again and again. */
 globalThis.onmessage = async ({ data: { bytes, header, kind, asked } }) => {
   try {
-    for (const told of searched(await Library.of(bytes, header), kind, asked)) postMessage(told);
+    made ??= Library.of(bytes, header);
+    const library = await made;
+    if (kind === "objects") postMessage({ answer: "told", text: library.objects(asked.text, asked.first, asked.count), change: asked.change });
+    else for (const told of searched(library, kind, asked)) postMessage(told);
   } catch (error) {
     postMessage({ answer: "failed", why: error.message });
   }
