@@ -10,7 +10,8 @@
  * used at the same time. (This is argued, not proved; malloc and free have to be such, too.)
  *
  * Codes: each call returns HUGEPOOL_OK or another code. If it returns another code, the pool and your buffers are unchanged, but for
- * *needed, *line and *done, and for the events that hugepool_events made before it stopped. Numbers that name nothing are rejected.
+ * *needed, *line, *run, *turns and *done, and for the events that hugepool_events made before it stopped. Numbers that name nothing are
+ * rejected.
  *
  * const: a call leaves a pool that it takes as const unchanged. While it runs it uses the handle's bytes, so don't define the object that
  * you keep as const.
@@ -58,7 +59,7 @@ enum hugepool_code {
     HUGEPOOL_BAD_HEADER = 6, /**< the first line is no header */
     HUGEPOOL_TOO_SMALL = 7,  /**< there is more to tell than there is room for */
     HUGEPOOL_BAD_CONDITION = 8, /**< line *line of the conditions says none; if *line is 0, no line does */
-    HUGEPOOL_NONE_MEETS = 9,    /**< the trace, or nothing that was searched, meets the conditions */
+    HUGEPOOL_NONE_MEETS = 9,    /**< the trace, or all that was searched, misses a condition */
     HUGEPOOL_LIMIT_REACHED = 10 /**< the limits were reached first */
 };
 

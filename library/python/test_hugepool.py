@@ -166,6 +166,15 @@ def test_what_is_no_event_is_not_read(given):
             pool.run([given])
 
 
+def test_an_array_is_as_long_as_its_memory():
+    class Long(Event * 1):  # type: ignore[misc]
+        def __len__(self) -> int:
+            return 1_000_000
+
+    with Pool(2, 1, 1, 1) as pool:
+        assert [str(it) for it in pool.run(Long(step(1)))] == ["refused idle"]
+
+
 @pytest.mark.parametrize("number", [-1, 1 << 32, (1 << 32) + 4, 1 << 64])
 def test_a_number_that_does_not_fit_is_refused(number):
     pool = Pool(8, 4, 4, 4)

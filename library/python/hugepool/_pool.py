@@ -15,9 +15,10 @@ from hugepool._words import Acquired, AcquiredKind, Config, Event, FileNumbers, 
 
 def _short(number: int) -> int:
     """A number of 32 bits: no file, task or size has another."""
-    if not 0 <= index(number) < 1 << 32:
-        raise NoSuch(f"no config, event, file or task has the number {number}")
-    return number
+    value = index(number)
+    if not 0 <= value < 1 << 32:
+        raise NoSuch(f"no config, event, file or task has the number {value}")
+    return value
 
 
 def _exact(event: Event) -> Event:
@@ -95,7 +96,8 @@ class Pool:
         """The outcomes of many events, made in one call. Where one can't happen, those before it have: the error's `done` is how many, and
         its `outcomes` what came of them."""
         items = many if isinstance(many, ctypes.Array) and many._type_ is Event else events(many)
-        count, done = len(items), c_size_t()
+        # (how many there are in memory: a class of somebody else may say another length)
+        count, done = ctypes.sizeof(items) // ctypes.sizeof(Event), c_size_t()
         outcomes = (Outcome * count)()
         with self._lock:
             code = _library.events(self._handle, items, count, outcomes, count, byref(done))

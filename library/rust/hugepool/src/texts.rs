@@ -16,6 +16,9 @@ pub struct BadTrace {
 
 impl fmt::Display for BadTrace {
     fn fmt(&self, f: &mut fmt::Formatter<'_>) -> fmt::Result {
+        if self.line == 0 {
+            return f.write_str(&self.reason);
+        }
         write!(f, "line {} is not allowed here: {}", self.line, self.reason)
     }
 }

@@ -63,4 +63,6 @@ fn faults_are_told() {
         assert_eq!(fault.to_string(), said);
     }
     assert!(told.to_string().starts_with("line 2 is not allowed here: "));
+    let none = BadTrace { line: 0, reason: "there was no memory".to_string() };
+    assert_eq!(none.to_string(), "there was no memory");
 }
