@@ -477,7 +477,7 @@ async function tryText() {
   await act(`document.getElementById("editing").open = true;`);
   await expect("the trace is in its field", has(["pool 4 1 4 2", "begin 1 map 0 0 2"]));
   await browser.click(turn("kill", 1));
-  await expect("a turn follows", `document.getElementById("text").value.endsWith("kill 1\n")`);
+  await expect("a turn follows", `document.getElementById("text").value.endsWith("kill 1\\n")`);
   await type(["# mine", "pool 4 1 4 2", "begin 1 map 0 0 2"]);
   await expect("what is typed is read", isAt(1, 1));
   await act(`document.getElementById("text").blur();`);
@@ -486,7 +486,7 @@ async function tryText() {
   await expect("and stays as it is typed", has(["# mine", "pool"]));
   await browser.click(turn("kill", 2));
   await act(`document.getElementById("text").focus();`);
-  await expect("a turn replaces it, at once where somebody types", `document.getElementById("text").value === "pool 4 1 4 2\nkill 2\n"`);
+  await expect("a turn replaces it, at once where somebody types", `document.getElementById("text").value === "pool 4 1 4 2\\nkill 2\\n"`);
 }
 
 /** (one browser can be made to lack something before the page is there) */

@@ -39,7 +39,6 @@ function showTrace(kept) {
   showText();
   showCondition();
   showSearches();
-  forgetTexts();
   showBeside();
   if (library.run) showMoment();
   else showMoves();

@@ -1,7 +1,7 @@
 // Lists of thousands of rows, of which the page has those in sight. All rows of a list have one height.
 
 // so many rows above and below those in sight are there, too
-const OVER = 8;
+const OVER = 5;
 
 /** A list in a box that scrolls. `make` makes the row of a place. With `picks` rows can be picked, by a click and by keys. How far the box is
  *  scrolled, `top`, and how tall it is, `tall`, are kept: to ask has the browser lay the page out, where something changed before. */

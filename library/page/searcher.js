@@ -1,5 +1,5 @@
 // What searches, in a worker with a module of its own, so that the page never waits: it tells how far it is, and what it found. Of a long run
-// it tells of events.
+// it tells texts.
 
 import { Library } from "./pool.js";
 
@@ -43,12 +43,12 @@ export function searched(library, kind, asked) {
 /** The module, which is made when something is asked for first. */
 let made = null;
 
-/** One search is asked for, or what there is to tell of events of a trace, which is asked of one worker again and again. */
+/** One search is asked for, or a text of a trace, of which one worker tells many. */
 globalThis.onmessage = async ({ data: { bytes, header, kind, asked } }) => {
   try {
     made ??= Library.of(bytes, header);
     const library = await made;
-    if (kind === "objects") postMessage({ answer: "told", text: library.objects(asked.text, asked.first, asked.count), change: asked.change });
+    if (kind === "tell") postMessage({ answer: "told", number: asked.number, text: library[asked.call](...asked.words) });
     else for (const told of searched(library, kind, asked)) postMessage(told);
   } catch (error) {
     postMessage({ answer: "failed", why: error.message });

@@ -3,7 +3,7 @@
 // in pools with more tasks than these, those that wait for one thing are folded, and those that do nothing
 const FEW_TASKS = 6;
 
-/** Each fold of tasks that are alike, by the words of its line. */
+/** Each fold of tasks that are alike, by what they are alike by. */
 const folds = new Map();
 
 /** All tasks of the pool, by their numbers. */
@@ -27,17 +27,25 @@ function heldBackOf(tasks) {
 
 // ---- folds
 
-/** What a task is told apart by, if it waits or does nothing: tasks of the same words can be folded into a line. No words of another. */
+/** What a task that waits, or that does nothing, is alike by; nothing of another one. */
 function alikeBy(task, { life, phase, is_blocked, holder, mappings, entries }) {
-  const { LIFE_ALIVE, LIFE_DEAD, PHASE_NONE } = library.numbers;
+  const { LIFE_DEAD, PHASE_NONE } = library.numbers;
+  if (is_blocked) return `${holder} ${wantedBy(task)}`;
+  if (life === LIFE_DEAD) return "dead";
+  return phase !== PHASE_NONE || nextOf(task) ? "" : [life, mappings, entries].join();
+}
+
+/** What all tasks of a fold do, as this one does. */
+function alikeWords(task) {
+  const { life, is_blocked, holder, mappings, entries } = standing.tasks.get(task);
+  const { LIFE_ALIVE, LIFE_DEAD } = library.numbers;
   if (is_blocked) return `wait for task ${holder}: ${wantedBy(task)}`;
   if (life === LIFE_DEAD) return "dead";
-  if (phase !== PHASE_NONE || nextOf(task)) return "";
   const has = `${plural(mappings, "mapping")} and ${plural(entries, "translated page")}`;
   return `idle${life === LIFE_ALIVE ? "" : " and killed"}, with ${has}${mappings + entries > 0 ? " each" : ""}`;
 }
 
-/** The tasks that are folded, by the words of their lines. */
+/** The tasks that are folded, by what they are alike by. */
 function foldedOf(tasks) {
   const groups = new Map();
   if (tasks.size > FEW_TASKS) for (const [task, numbers] of tasks) putBehind(groups, alikeBy(task, numbers), task);
@@ -45,10 +53,9 @@ function foldedOf(tasks) {
   return new Map([...groups].filter(([, list]) => list.length > FEW_WAITS));
 }
 
-function foldOf(key) {
+function foldOf() {
   const parts = { summary: element("summary"), inside: element("div", { className: "tasks" }), list: [] };
-  const className = key.startsWith("wait ") ? "fold is-waiting" : "fold";
-  parts.root = element("details", { className, ontoggle: () => library.run && showTasks() }, parts.summary, parts.inside);
+  parts.root = element("details", { className: "fold", ontoggle: () => library.run && showTasks() }, parts.summary, parts.inside);
   return parts;
 }
 
@@ -64,10 +71,11 @@ function put(place, elements) {
 }
 
 function showFold(key, list) {
-  if (!folds.has(key)) folds.set(key, foldOf(key));
+  if (!folds.has(key)) folds.set(key, foldOf());
   const fold = folds.get(key);
   fold.list = list;
-  fold.summary.textContent = `${list.length} ${key}`;
+  fold.summary.textContent = `${list.length} ${alikeWords(list[0])}`;
+  fold.root.classList.toggle("is-waiting", standing.tasks.get(list[0]).is_blocked);
   put(fold.inside, fold.root.open ? showCards(list) : []);
   return fold.root;
 }

@@ -6,15 +6,10 @@ const ROW_HEIGHT = 19;
 // a line behind all lines
 const LAST_LINE = 0xffffffff;
 
-/** The rows of the whole run, as long as it is the same, and by its lines where their rows stand. */
-const told = { rows: null, lines: [], places: [] };
+/** The rows of the run, and by its lines where their rows stand; of which change of the trace they are, and of which they are asked for. */
+const told = { of: -1, askedOf: -1, lines: [], places: [] };
 let explained, pause = 0;
 let isInSight = false;
-
-/** The run is another one. */
-function forgetTexts() {
-  told.rows = null;
-}
 
 function makeExplained(place) {
   return element("div", { className: "row", textContent: told.lines[place], role: "listitem" });
@@ -22,10 +17,8 @@ function makeExplained(place) {
 
 const soFar = (count) => textOf(trace.lines.slice(0, count + 1));
 
-function explain() {
-  if (told.rows === trace.outcomes && told.count === trace.count) return;
-  const text = library.text("explain_rows", soFar(trace.count), 2, LAST_LINE);
-  Object.assign(told, { rows: trace.outcomes, count: trace.count, lines: linesOf(text), places: [] });
+function takeRows(text) {
+  Object.assign(told, { of: changes, lines: linesOf(text), places: [] });
   told.lines.forEach((words, place) => {
     const number = /^ *(\d+) /.exec(words)?.[1];
     if (number !== undefined) told.places[number] ??= place;
@@ -35,12 +28,30 @@ function explain() {
   setRows(explained, told.lines.length);
 }
 
+/** Marks the moment's row, where these are the run's rows. */
+function markTexts() {
+  if (told.of === changes) markRow(explained, at === 0 ? 0 : (told.places[at + 1] ?? 0));
+}
+
+function explain() {
+  if (told.askedOf === changes) return;
+  const of = (told.askedOf = changes);
+  tellOf("text", ["explain_rows", soFar(trace.count), 2, LAST_LINE], (text) => {
+    if (of !== changes) return;
+    takeRows(text);
+    markTexts();
+  });
+}
+
 function showTexts() {
   if (!library.run || !isInSight) return;
   explain();
-  markRow(explained, at === 0 ? 0 : (told.places[at + 1] ?? 0));
+  markTexts();
+  const [of, moment] = [changes, at];
   // (of one row and what stands below it)
-  $("standing").textContent = library.text("explain_rows", soFar(at), at + 1, at + 1);
+  tellOf("text", ["explain_rows", soFar(at), at + 1, at + 1], (text) => {
+    if (of === changes && moment === at) $("standing").textContent = text;
+  });
 }
 
 /** Shows the texts once nothing else is asked for. */
