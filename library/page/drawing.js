@@ -21,7 +21,7 @@ const drawnWords = () => [soFar(trace.count), drawn + 2, trace.count - drawn];
 
 function drawRest() {
   const of = changes;
-  tellOf("objects", drawnWords(), (told) => {
+  tellOf("picture", "objects", drawnWords(), (told) => {
     if (of !== changes) return;
     drawTold(told);
     show();

@@ -48,7 +48,7 @@ globalThis.onmessage = async ({ data: { bytes, header, kind, asked } }) => {
   try {
     made ??= Library.of(bytes, header);
     const library = await made;
-    if (kind === "tell") postMessage({ answer: "told", number: asked.number, text: library[asked.call](...asked.words) });
+    if (kind === "tell") postMessage({ answer: "told", reason: asked.reason, text: library[asked.call](...asked.words) });
     else for (const told of searched(library, kind, asked)) postMessage(told);
   } catch (error) {
     postMessage({ answer: "failed", why: error.message });

@@ -5,28 +5,40 @@ const AT_ONCE = 100_000;
 
 /** The worker: undefined before it is made, and null where there can't be one. */
 let teller;
-/** What it is asked for, by number: the call of the library, and who hears what it tells. */
-const asks = new Map();
-let lastAsk = 0;
+/** By what it is for, what the worker is asked, and what it is to be asked next: the call of the library, and who hears what it tells. */
+const asked = new Map();
+const waiting = new Map();
 
 const isLong = () => trace.count * library.run.config.tasks > AT_ONCE;
 
-function hearTold(number, text) {
-  const { hears } = asks.get(number);
-  asks.delete(number);
-  hears(text);
+function ask(reason, it) {
+  asked.set(reason, it);
+  teller.postMessage({ bytes: wasmBytes, header: data.header, kind: "tell", asked: { reason, call: it.call, words: it.words } });
+}
+
+/** What is told is dropped where something newer is asked for the same. */
+function hearTold(reason, text) {
+  const { hears } = asked.get(reason);
+  const next = waiting.get(reason);
+  asked.delete(reason);
+  waiting.delete(reason);
+  if (next) ask(reason, next);
+  else hears(text);
 }
 
 /** Where there is no worker, or it fails, the page goes on by itself. */
 function goOnAlone() {
+  const left = new Map([...asked, ...waiting]);
   teller = null;
-  for (const [number, { call, words }] of [...asks]) hearTold(number, library[call](...words));
+  asked.clear();
+  waiting.clear();
+  for (const { call, words, hears } of left.values()) hears(library[call](...words));
 }
 
 function makeTeller() {
   try {
     const made = makeSearcher();
-    made.onmessage = ({ data: { answer, number, text } }) => (answer === "told" ? hearTold(number, text) : goOnAlone());
+    made.onmessage = ({ data: { answer, reason, text } }) => (answer === "told" ? hearTold(reason, text) : goOnAlone());
     made.onerror = (event) => {
       event.preventDefault();
       goOnAlone();
@@ -37,10 +49,10 @@ function makeTeller() {
   }
 }
 
-/** Has `hears` hear what a call of the library tells: at once, and of a long run a little later. */
-function tellOf(call, words, hears) {
+/** Has `hears` hear what a call of the library tells: at once, and of a long run a little later, if nothing newer is asked for that reason. */
+function tellOf(reason, call, words, hears) {
   if (isLong() && teller === undefined) teller = makeTeller();
-  if (!isLong() || teller === null) return hears(library[call](...words));
-  asks.set(++lastAsk, { call, words, hears });
-  return teller.postMessage({ bytes: wasmBytes, header: data.header, kind: "tell", asked: { number: lastAsk, call, words } });
+  if (!isLong() || teller === null) hears(library[call](...words));
+  else if (asked.has(reason)) waiting.set(reason, { call, words, hears });
+  else ask(reason, { call, words, hears });
 }

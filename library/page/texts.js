@@ -36,7 +36,7 @@ function markTexts() {
 function explain() {
   if (told.askedOf === changes) return;
   const of = (told.askedOf = changes);
-  tellOf("text", ["explain_rows", soFar(trace.count), 2, LAST_LINE], (text) => {
+  tellOf("rows", "text", ["explain_rows", soFar(trace.count), 2, LAST_LINE], (text) => {
     if (of !== changes) return;
     takeRows(text);
     markTexts();
@@ -49,7 +49,7 @@ function showTexts() {
   markTexts();
   const [of, moment] = [changes, at];
   // (of one row and what stands below it)
-  tellOf("text", ["explain_rows", soFar(at), at + 1, at + 1], (text) => {
+  tellOf("standing", "text", ["explain_rows", soFar(at), at + 1, at + 1], (text) => {
     if (of === changes && moment === at) $("standing").textContent = text;
   });
 }
