@@ -175,6 +175,31 @@ def test_an_array_is_as_long_as_its_memory():
         assert [str(it) for it in pool.run(Long(step(1)))] == ["refused idle"]
 
 
+@pytest.mark.parametrize("line", [b"step 1", 5, None])
+def test_a_line_is_str(line):
+    with pytest.raises(TypeError):
+        parse(line)
+
+
+def test_a_condition_is_one_line():
+    for asked, number in (["rest\n"], 1), (["rest", "rest\nblocked 1"], 2):
+        with pytest.raises(hugepool.BadCondition) as raised:
+            hugepool.minimize("pool 4 1 4 1\n", asked)
+        assert raised.value.line == number
+
+
+def test_an_index_is_asked_once():
+    class Index:
+        asked = 0
+
+        def __index__(self) -> int:
+            self.asked += 1
+            return 4 if self.asked == 1 else 1 << 40
+
+    with Pool(Index(), 1, 1, 1) as pool:  # type: ignore[arg-type]
+        assert pool.numbers().frames == 4
+
+
 @pytest.mark.parametrize("number", [-1, 1 << 32, (1 << 32) + 4, 1 << 64])
 def test_a_number_that_does_not_fit_is_refused(number):
     pool = Pool(8, 4, 4, 4)

@@ -47,7 +47,10 @@ def resize(frames: int) -> Event:
 def parse(line: str) -> Event:
     """The event of a trace's line, which stands here as traces have it, without its end."""
     event = _new(Event)
-    text = line.encode()
+    try:
+        text = line.encode()
+    except AttributeError:
+        raise TypeError(f"a line is str, and not {type(line).__name__}") from None
     if _library.read_event(text, len(text), event):
         raise NoSuch(f"not an event: {line!r}")
     return event

@@ -38,9 +38,11 @@ def _text(conditions: str | Iterable[str]) -> str:
     if isinstance(conditions, str):
         return conditions
     lines = list(conditions)
-    for it in lines:
+    for number, it in enumerate(lines, 1):
         if not isinstance(it, str):
             raise TypeError(f"a condition is str, and not {type(it).__name__}")
+        if "\n" in it:  # (which would be two lines)
+            raise BadCondition(number, it)
     return "".join(f"{it}\n" for it in lines)
 
 
