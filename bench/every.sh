@@ -1,6 +1,7 @@
 #!/usr/bin/env bash
-# Searches all schedules of scripts for an answer that none gives, and then for all their endings, on
-# one processor: scripts of examples/, and three and four tasks that map one file and store into it.
+# Searches all schedules of scripts for an answer that none gives, for a count at the end that none has
+# (which needs fewer states), and then for all their endings, on one processor: scripts of examples/, and
+# three and four tasks that map one file and store into it.
 # Prints the processor time, the peak memory, and the states by the progress line, which is shown after
 # half a second. Needs cargo, python3 and taskset.
 set -euo pipefail
@@ -19,8 +20,11 @@ NAMES = ("truncate-against-fault", "two-files-one-quota", "store-against-map", "
     "truncate-against-store")
 ONE = [shutil.which("taskset"), "-c", str(sorted(os.sched_getaffinity(0))[0])]
 # what is searched, and the status
-FIND = [PROVED[0], "find", "--every", "--answer", "1:1=segv"], 1
-ENDINGS = [PROVED[0], "explore", "--every", "--states", "4000000"], 0
+SEARCHES = {
+    "answer": ([PROVED[0], "find", "--every", "--answer", "1:1=segv"], 1),
+    "count": ([PROVED[0], "find", "--every", "--final", "free=999"], 1),
+    "endings": ([PROVED[0], "explore", "--every", "--states", "4000000"], 0),
+}
 
 
 def backends(tasks):
@@ -61,9 +65,9 @@ with tempfile.TemporaryDirectory() as folder:
         path.write_text(backends(tasks))
     print(f"{'script':36} {'':7} {'seconds':>7} {'KiB':>8} {'states':>9}")
     for name, path in scripts.items():
-        for search, wanted in (FIND, ENDINGS):
+        for what, (search, wanted) in SEARCHES.items():
             seconds, states = searched(search, wanted, path)
             memory = peak_memory(search, path)
             told = ["-" if it is None else it for it in (memory, states)]
-            print(f"{name:36} {search[1]:7} {seconds:7.2f} {told[0]:>8} {told[1]:>9}", flush=True)
+            print(f"{name:36} {what:7} {seconds:7.2f} {told[0]:>8} {told[1]:>9}", flush=True)
 P
