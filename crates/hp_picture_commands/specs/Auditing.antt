@@ -53,8 +53,8 @@ ReaderAtPicture (Line number) old new = new ≡ old
 abbrev pub TellsAudit : {A : Type 0} → Result A PictureFault → (old new : ℕ) → Type 0
 TellsAudit result old new = MatchResult result (λ _. new ≡ old) (λ fault. ReaderAtPicture fault old new)
 
--- What is answered, and what was read and written then: whether nothing is wrong. A bad line is the first one of what was read, and any other
--- fault is of reading, of writing, or of memory. A flush that fails is a fault of writing
+-- What is answered, and what was read and written then: whether nothing is wrong. A bad line is the first one of what was read, and any
+-- other fault is of reading, of writing, or of memory. A flush that fails is a fault of writing
 abbrev pub AnsweredAudit : Result Bool PictureFault → (from to : Option (List ℕ)) → (old new : ℕ) → (before : Option (List ℕ))
     → (after : Option (Option (List ℕ))) → Type 0
 AnsweredAudit (Ok right) from to old new before after = (new ≡ old) × IfThere after (λ held. Audits right from to before held)

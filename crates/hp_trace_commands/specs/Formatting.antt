@@ -37,8 +37,8 @@ ReaderAtLoose (Line number why) old new = new ≡ old
 abbrev pub TellsFormat : Result (Unit {0}) LooseFault → (old new : ℕ) → Type 0
 TellsFormat result old new = MatchResult result (λ _. new ≡ old) (λ fault. ReaderAtLoose fault old new)
 
--- What is answered, and what was read and written then. A fault of a line is that of the first wrong one of what was read, and any other is of
--- reading, of writing, or of memory. A flush that fails is a fault of writing
+-- What is answered, and what was read and written then. A fault of a line is that of the first wrong one of what was read, and any other
+-- is of reading, of writing, or of memory. A flush that fails is a fault of writing
 abbrev pub AnsweredFormat : Result (Unit {0}) LooseFault → (from to : Option (List ℕ)) → (old new : ℕ) → (before : Option (List ℕ))
     → (after : Option (Option (List ℕ))) → Type 0
 AnsweredFormat (Ok x) from to old new before after = (new ≡ old) × IfThere after (λ held. Formats from to before held)

@@ -103,8 +103,8 @@ Ends (Pool r) status from to old new before after = EndsPool r status from to ol
 Ends Audit status from to old new before after =
     EndsWith status_of_audit status (λ answer. AnsweredAudit answer from to old new before after)
 
--- how it ends where the input is in the loose form: as the request does with the strict text that it asks for; or it can't be read, for that
--- reason, and nothing is written
+-- how it ends where the input is in the loose form: as the request does with the strict text that it asks for; or it can't be read, for
+-- such a reason, and nothing is written
 abbrev pub EndsWithStrict : Request → (status : ℕ) → (from to : Option (List ℕ)) → (old new : ℕ) → (before : Option (List ℕ))
     → (after : Option (Option (List ℕ))) → Type 0
 EndsWithStrict r status from to old new before after =
