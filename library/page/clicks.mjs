@@ -445,6 +445,7 @@ async function tryLong() {
   await expect("rows of the explanation", `document.querySelectorAll("#explanation .row").length > 5 && document.querySelector("#explanation [aria-current]") !== null`);
   const texts = await browser.run(`(async () => { document.getElementById("back").click(); let most = 0; let last = performance.now();
     for (const end = last + 800; last < end; ) { await new Promise((done) => setTimeout(done)); const now = performance.now(); most = Math.max(most, now - last); last = now; } return most; })()`);
+  await expect("nothing went wrong", `document.getElementById("fault").hidden`);
   console.log(`page: ${browser.name}: 20,000 events of 64 tasks are there after ${least(loads)} to ${most(loads)} ms; a move takes ${midst(moves)} ms, at most ${most(moves)}; `
     + `a random turn ${midst(turns)} ms, at most ${most(turns)}; texts hold the page for ${texts.toFixed(0)} ms`);
 }
@@ -523,6 +524,16 @@ async function tryLooks() {
   await browser.light("light");
 }
 
+/** What goes wrong is shown, but not that the browser looks at sizes a frame later. */
+async function tryErrors() {
+  const says = (message) => act(`window.dispatchEvent(new ErrorEvent("error", { message: ${JSON.stringify(message)} }));`);
+  await open("#two-maps-one-lock");
+  await says("ResizeObserver loop completed with undelivered notifications.");
+  await expect("that isn't shown", `document.getElementById("fault").hidden`);
+  await says("out of memory");
+  await expect("what went wrong", `${text("#fault")} === "out of memory" && !document.getElementById("fault").hidden`);
+}
+
 /** Moves stay in sight where the page scrolls, and what is said has roles and names. */
 async function tryRoles() {
   await open("#two-maps-one-lock@5");
@@ -535,7 +546,7 @@ async function tryRoles() {
 const asked = process.env.TRIES?.split(" ").map((it) => `try${it}`);
 await inBrowsers(async (...it) => {
   [browser, kind] = it;
-  const all = [tryMoves, tryPicture, tryEvents, tryFields, tryTexts, tryWaits, tryPlaying, tryAddresses, tryFiles, tryConditions, tryMinimizing, tryFinding, tryStops, tryStopped, tryBeside, tryFolds, tryText, tryLong, tryRoles, tryMissing, tryLooks];
+  const all = [tryMoves, tryPicture, tryEvents, tryFields, tryTexts, tryWaits, tryPlaying, tryAddresses, tryFiles, tryConditions, tryMinimizing, tryFinding, tryStops, tryStopped, tryBeside, tryFolds, tryText, tryLong, tryErrors, tryRoles, tryMissing, tryLooks];
   await open("");
   const finds = await browser.run(`!document.getElementById("find").hidden`);
   const left = finds ? [] : [tryFinding, tryStops, tryStopped];

@@ -207,8 +207,9 @@ function listenToPage() {
     event.preventDefault();
     event.stopImmediatePropagation();
   }, true);
-  // (where the browser has no memory left, for one)
+  // (where the browser has no memory left, for one; that what has another size is looked at a frame later is no error)
   window.addEventListener("error", ({ message }) => {
+    if (message.startsWith("ResizeObserver loop")) return;
     $("fault").hidden = false;
     $("fault").textContent = message;
   });
