@@ -211,9 +211,11 @@ async function tryAddresses() {
     ["#%", isAt(17, 17), 'The address ends with "#%", which can\'t be read.'],
     ["#no-such", isAt(17, 17), 'No example is named "no-such".'],
     ["#trace=!", isAt(17, 17), null],
+    ["#trace=", isAt(17, 17), null],
   ]) {
     await open(hash);
     await expect(`the address ${hash}`, `${place} && !document.getElementById("notice").hidden${why ? ` && ${text("#notice")} === ${JSON.stringify(why)}` : ""}`);
+    await expect("it is one sentence", `!${text("#notice")}.endsWith("..")`);
   }
   await open("#two-maps-one-lock@3");
   await act(`location.hash = "#kill-and-exit@2";`);

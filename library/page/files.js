@@ -114,7 +114,7 @@ async function takePacked({ packed, isScript, place }) {
     takeText(text.slice(0, end), place, scriptOf(linesOf(text.slice(end))));
   } catch (error) {
     chooseExample(FIRST_EXAMPLE);
-    tell(`The trace in the address can't be read: ${error.message}.`);
+    tell(`The trace in the address can't be read: ${error.message.replace(/\.$/, "")}.`);
   }
 }
 
