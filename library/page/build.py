@@ -51,7 +51,8 @@ KINDS = {"uint32_t": ("u32", 4), "uint64_t": ("u64", 8), "int64_t": ("i64", 8), 
 SHOWN = re.compile(r"^\| `([\w-]+)` \| (.*?) \|", re.MULTILINE)
 # the picture of a run, which is also on the page of `draw --html`: constants of modules by these names; the page around it follows
 VIEWER, VIEWER_SCRIPTS = TOP / "crates" / "hp_page" / "src", ("run_script", "picture_script", "viewer_script")
-SCRIPTS = [PAGE / f"{it}.js" for it in "pool trace address rows telling drawing own glossary cards tasks forms play texts files beside conditions asking finding page".split()]
+NAMES = "pool trace address rows telling drawing own glossary cards tasks forms play texts files beside conditions asking finding page"
+SCRIPTS = [PAGE / f"{it}.js" for it in NAMES.split()]
 # what the page's worker runs, in which it searches
 SEARCHER = [PAGE / "pool.js", PAGE / "searcher.js"]
 # of docs/MACHINE.md, a row of the table of phases: the phase, and Linux's function

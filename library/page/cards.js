@@ -150,7 +150,8 @@ function showNext(card, { begin, left }) {
   card.step.hidden = card.deny.hidden = begin !== undefined;
   card.next.textContent = begin ?? "";
   card.next.hidden = begin === undefined;
-  card.next.title = left ? `The script begins it once ${plural(left.count, "call")} of task ${left.task} ended` : "The task's next call by the script";
+  const due = left && `The script begins it once ${plural(left.count, "call")} of task ${left.task} ended`;
+  card.next.title = due ?? "The task's next call by the script";
   setOff(card.next, left !== undefined);
 }
 

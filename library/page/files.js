@@ -5,7 +5,9 @@ const MOST_ADDRESS = 1_000_000;
 // no trace of an address or a file has more bytes
 const MOST_BYTES = 16_000_000;
 const SAYING = 6000;
+// the text follows in its field when nothing else is asked for so many milliseconds, and one more for so many lines
 const PUTTING = 250;
+const LINES_PUT = 10;
 
 let typing = 0;
 let putting = 0;
@@ -26,12 +28,12 @@ function tell(why) {
 
 // ---- typing
 
-/** The text follows in its field once nothing else is asked for, since browsers take long for a long one, or when somebody types there; what is
- *  typed there stays as it is. */
+/** The text follows in its field once nothing else is asked for, since browsers take long for a long one, or when somebody types there; what
+ *  is typed there stays as it is. */
 function showText() {
   isTextOld = document.activeElement !== $("text");
   clearTimeout(putting);
-  if (isTextOld && $("editing").open) putting = setTimeout(putText, PUTTING);
+  if (isTextOld && $("editing").open) putting = setTimeout(putText, PUTTING + trace.lines.length / LINES_PUT);
 }
 
 function putText() {

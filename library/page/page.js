@@ -46,8 +46,8 @@ function showTrace(kept) {
 
 // ---- the moment
 
-/** Shows the moment in the picture, which of a long run may follow later. It looks how far it is scrolled: this comes first, while the page is
- *  laid out. */
+/** Shows the moment in the picture, which of a long run may follow later. It looks how far it is scrolled: this comes first, while the page
+ *  is laid out. */
 const showPlace = () => showPicked(Math.min(at, view.run.count) - 1);
 
 function showMoment() {

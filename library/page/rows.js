@@ -3,11 +3,12 @@
 // so many rows above and below those in sight are there, too
 const OVER = 5;
 
-/** A list in a box that scrolls. `make` makes the row of a place. With `picks` rows can be picked, by a click and by keys. How far the box is
- *  scrolled, `top`, and how tall it is, `tall`, are kept: to ask has the browser lay the page out, where something changed before. */
+/** A list in a box that scrolls. `make` makes the row of a place. With `picks` rows can be picked, by a click and by keys. How far the box
+ *  is scrolled, `top`, and how tall it is, `tall`, are kept: to ask has the browser lay the page out, where something changed before. */
 function newRows(scroller, height, make, picks) {
   const room = element("div", { className: "rows", role: "presentation" });
-  const list = { scroller, room, height, make, count: 0, at: -1, top: 0, tall: 0, rows: new Map(), mark: picks ? "aria-selected" : "aria-current" };
+  const mark = picks ? "aria-selected" : "aria-current";
+  const list = { scroller, room, height, make, count: 0, at: -1, top: 0, tall: 0, rows: new Map(), mark };
   scroller.replaceChildren(room);
   const look = () => {
     lookAt(list);

@@ -1,5 +1,5 @@
-// What searches, in a worker with a module of its own, so that the page never waits: it tells how far it is, and what it found. Of a long run
-// it tells texts.
+// What searches, in a worker with a module of its own, so that the page never waits: it tells how far it is, and what it found. Of a long
+// run it tells texts.
 
 import { Library } from "./pool.js";
 

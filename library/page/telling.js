@@ -49,7 +49,8 @@ function makeTeller() {
   }
 }
 
-/** Has `hears` hear what a call of the library tells: at once, and of a long run a little later, if nothing newer is asked for that reason. */
+/** Has `hears` hear what a call of the library tells: at once, and of a long run a little later, if nothing newer is asked for that
+ *  reason. */
 function tellOf(reason, call, words, hears) {
   if (isLong() && teller === undefined) teller = makeTeller();
   if (!isLong() || teller === null) hears(library[call](...words));
