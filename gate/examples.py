@@ -202,14 +202,16 @@ def text(name: str, ending: str, otherwise: str = "") -> str:
 
 
 def example_rows() -> Iterator[tuple[str, Row]]:
-    """The traces and scripts with what stands beside them."""
+    """The traces and scripts with what stands beside them. (A trace says the same in the loose form, however short it is.)"""
     for name in sorted(names(".trace")):
         trace, status = text(name, ".trace"), int(text(name, ".status", "0"))
-        yield name, Row(name, ["replay"], status, trace, stdout=text(name, ".out"), stderr=text(name, ".err"))
+        words = ["replay"] if status else ["replay", "replay --loose"]
+        yield name, Row(name, words, status, trace, stdout=text(name, ".out"), stderr=text(name, ".err"))
         if name in names(".explained"):
-            yield name, Row(name, ["explain"], stdin=trace, stdout=text(name, ".explained"))
+            yield name, Row(name, ["explain", "explain --loose"], stdin=trace, stdout=text(name, ".explained"))
     for picture in sorted(PICTURES.glob("*.svg")):
-        yield picture.name, Row(picture.stem, ["draw"], stdin=text(picture.stem, ".trace"), stdout=picture.read_bytes().decode())
+        drawn = picture.read_bytes().decode()
+        yield picture.name, Row(picture.stem, ["draw", "draw --loose"], stdin=text(picture.stem, ".trace"), stdout=drawn)
     for name in sorted(names(".script")):
         for block in text(name, ".lines").removeprefix("# ").split("\n# "):
             words, _, lines = block.partition("\n")
