@@ -1,11 +1,14 @@
 #!/usr/bin/env python3
-"""Tests which program ./hugepool runs, when it compiles or proves one, how libraries are proved side by side, and which mutants are due.
+"""Tests which program ./hugepool runs, when it compiles or proves one, how libraries are proved side by side, which mutants are due, and
+with which status a report ends.
 
 Each is tried in a small repository with a stand-in for `rt`, which counts its calls, and builds programs that print how they were built.
 As the toolchain's module it notes when each library is begun and built, and refuses one that is begun before those below it are built.
 """
 from __future__ import annotations
 
+import contextlib
+import io
 import os
 import shutil
 import signal
@@ -330,6 +333,14 @@ def dues(top: Path) -> Iterator[tuple[str, bool]]:
     yield "a change that isn't committed does, too", due(top, tried, every) == every
 
 
+def statuses() -> Iterator[tuple[str, bool]]:
+    """With which status a report ends."""
+    right, wrong = ("so", True), ("not so", False)
+    with contextlib.redirect_stdout(io.StringIO()):
+        found = [report("a report", it) for it in ([], [right], [wrong], [right, wrong], [wrong, right], iter([right]))]
+    yield "a report of nothing, or of what isn't so, fails", found == [1, 0, 1, 1, 1, 0]
+
+
 def tries_in(part: Callable, crates: dict[str, list[str]] | None) -> list[tuple[str, bool]]:
     with tempfile.TemporaryDirectory(prefix="launcher-") as name:
         return [*part(Room(Path(name), crates) if crates else Path(name))]
@@ -338,6 +349,7 @@ def tries_in(part: Callable, crates: dict[str, list[str]] | None) -> list[tuple[
 def tries() -> Iterator[tuple[str, bool]]:
     parts = [*((part, CRATES) for part in (unproved, proofs, staleness)), (stands_on, crates_of()), (side_by_side, SIDE_BY_SIDE)]
     parts.append((dues, None))
+    yield from statuses()
     with ThreadPoolExecutor(len(parts)) as pool:
         for found in pool.map(lambda it: tries_in(*it), parts):
             yield from found
