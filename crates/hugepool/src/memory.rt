@@ -1,4 +1,6 @@
 //! How much memory a search among all schedules may take, where its words don't say.
+ghost use Rattle.std.specs.Prelude.{◌≡◌, ◌*◌, ◌-◌, ◌^◌, min};
+
 use hp_command::{Asked, Request, ScriptRequest};
 use std::fs;
 
@@ -23,6 +25,13 @@ fn free_kibibytes(lines: &str) -> Option<u64> {
     line.split_whitespace().nth(1)?.parse::<u64>().ok()
 }
 
+// Half of so many KiB, in bytes.
+fn half_of(free: u64) -> u64
+    ensures { result ≡ min (free * 512) (2 ^ 64 - 1) }
+{
+    free.saturating_mul(512)
+}
+
 /// Where no limit is given, it is half of what is free. Where the system doesn't tell that, there is none.
 pub(crate) fn limit_memory(rt: &HostRuntime, asked: &mut Asked) {
     let Some(limit) = limit_of(asked) else {
@@ -34,5 +43,5 @@ pub(crate) fn limit_memory(rt: &HostRuntime, asked: &mut Asked) {
     let Ok(lines) = fs::read_to_string(rt, MEMORY) else {
         return;
     };
-    *limit = free_kibibytes(lines.as_str()).map(|free| free.saturating_mul(512));
+    *limit = free_kibibytes(lines.as_str()).map(|free| half_of(free));
 }
