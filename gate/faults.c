@@ -4,17 +4,23 @@
  * FAULT_GROWTH: the number of the growth that is refused, counted from 1; 0 and -1 refuse none.
  * FAULT_TOLD: a file descriptor that gets one byte for the refusal: 'm' for memory, 't' for a thread. Where FAULT_GROWTH is -1 it gets 's'
  * for each thread that is started.
+ * FAULT_MEMORY: a file that is opened in place of /proc/meminfo, if there is one.
  */
 #define _GNU_SOURCE
 #include <dlfcn.h>
 #include <errno.h>
+#include <fcntl.h>
 #include <pthread.h>
+#include <stdarg.h>
 #include <stdatomic.h>
 #include <stddef.h>
 #include <stdlib.h>
+#include <string.h>
+#include <sys/types.h>
 #include <unistd.h>
 
 typedef int make_thread(pthread_t *, const pthread_attr_t *, void *(*)(void *), void *);
+typedef int open_file(const char *, int, ...);
 
 extern void *__libc_malloc(size_t);
 extern void *__libc_calloc(size_t, size_t);
@@ -22,6 +28,7 @@ extern void *__libc_realloc(void *, size_t);
 extern void *__libc_memalign(size_t, size_t);
 
 static make_thread *thread_of_the_system;
+static open_file *open_of_the_system;
 static atomic_long growths;
 static long refused;
 static int told;
@@ -30,6 +37,7 @@ static _Thread_local int is_inside;
 /* The program begins after this: what its loader took isn't counted. */
 __attribute__((constructor)) static void begin(void) {
     thread_of_the_system = (make_thread *)dlsym(RTLD_NEXT, "pthread_create");
+    open_of_the_system = (open_file *)dlsym(RTLD_NEXT, "open");
     told = atoi(getenv("FAULT_TOLD"));
     refused = atol(getenv("FAULT_GROWTH"));
     atomic_store(&growths, 0);
@@ -91,4 +99,13 @@ int pthread_create(pthread_t *thread, const pthread_attr_t *how, void *(*run)(vo
     int answer = thread_of_the_system(thread, how, run, with);
     is_inside = 0;
     return answer;
+}
+
+int open(const char *path, int how, ...) {
+    va_list more;
+    va_start(more, how);
+    mode_t mode = how & O_CREAT ? va_arg(more, mode_t) : 0;
+    va_end(more);
+    const char *other = strcmp(path, "/proc/meminfo") == 0 ? getenv("FAULT_MEMORY") : NULL;
+    return open_of_the_system(other != NULL ? other : path, how, mode);
 }

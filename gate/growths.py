@@ -6,7 +6,8 @@ and end with status 1, and its output must be a front of the right one; where a 
 right. hp_memory_tests runs stories, which print each refusal and try again: everything else must be as with ample memory, to the end.
 
 At last it counts the threads that a command starts: one for each racing task and each call of a round on a running pool, anew behind each
-cut of a journal, and no other. And it looks for races in which all tasks have calls in flight at once.
+cut of a journal, and no other. It has Linux say how much memory is free, of which a search takes half. And it looks for races in which all
+tasks have calls in flight at once.
 """
 from __future__ import annotations
 
@@ -58,10 +59,10 @@ class Program:
     def __init__(self, path: Path, library: Path) -> None:
         self.path, self.library = path, library
 
-    def told(self, words: str, given: str, refused: int = 0) -> Told:
+    def told(self, words: str, given: str, refused: int = 0, **more: str) -> Told:
         """A run with these words and this input, in which the growth of this number is refused, if any is."""
         with tempfile.TemporaryFile() as told:
-            own = {"PATH": os.environ["PATH"], "LD_PRELOAD": str(self.library)}
+            own = {"PATH": os.environ["PATH"], "LD_PRELOAD": str(self.library), **more}
             own |= {"FAULT_TOLD": str(told.fileno()), "FAULT_GROWTH": str(refused)}
             try:
                 ran = run(self.path, words, given, env=own, pass_fds=[told.fileno()], timeout=SECONDS)
@@ -273,6 +274,19 @@ def threads_tried(program: Program) -> Iterator[tuple[str, bool]]:
         yield f"{words} starts {wanted} threads: {told._replace(out='')}", (told.status, told.err, told.faults) == (0, "", "s" * wanted)
 
 
+def halves_tried(program: Program) -> Iterator[tuple[str, bool]]:
+    """Whether a search that is given no limit of memory takes half of what Linux says is free, in whose place a file says it."""
+    stores = "".join(f"begin {task} map 0 0 2\nbegin {task} store {task % 2} 1\n" for task in range(1, 5))
+    for words in ("find --every --answer 1:1=segv", "explore --every", "schedule --every"):
+        limits = [program.told(f"{words} --memory {mib}", f"pool 4 1 4 4\n{stores}") for mib in (1, 2)]
+        yield f"{words}: each limit cuts it, and elsewhere", [it.status for it in limits] == [3, 3] and limits[0].err != limits[1].err
+        for kib, wanted in zip((2048, 4096), limits):
+            with tempfile.NamedTemporaryFile("w") as free:
+                print(f"MemTotal: 9 kB\nMemFree: 9 kB\nMemAvailable: {kib:>9} kB", file=free, flush=True)
+                told = program.told(words, f"pool 4 1 4 4\n{stores}", FAULT_MEMORY=free.name)
+            yield f"{words}: of {kib} KiB half are taken", told == wanted
+
+
 def most_at_once(program: Path, script: str) -> int:
     """How many calls a race of this script has in flight at once, at the most."""
     trace = run(program, "race --trace", script).out
@@ -322,6 +336,7 @@ def tries(loaded: Path, pool: ThreadPoolExecutor) -> Iterator[tuple[str, bool]]:
     else:
         print("left out: failed allocations in scenarios (hp_memory_tests): they need its proved program (./check all)")
     yield from threads_tried(program)
+    yield from halves_tried(program)
     for tasks in (2, 12, 64):
         is_so = any(most_at_once(program.path, crowd(tasks)) == tasks for _ in range(RACES))
         yield f"all {tasks} tasks of a race have calls in flight at once", is_so
