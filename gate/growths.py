@@ -329,14 +329,14 @@ def tries(loaded: Path, pool: ThreadPoolExecutor) -> Iterator[tuple[str, bool]]:
     if is_proved():
         yield from refusals(program, cases(), pool)
         yield from audits_tried(program)
+        yield from halves_tried(program)
     else:
-        print("left out: failed allocations of commands: they need the proved program")
+        print("left out: failed allocations of commands, and searches to their limits: they need the proved program")
     if is_current(teller.path, "hp_memory_tests"):
         yield from refusals(teller, stories(), pool)
     else:
         print("left out: failed allocations in scenarios (hp_memory_tests): they need its proved program (./check all)")
     yield from threads_tried(program)
-    yield from halves_tried(program)
     for tasks in (2, 12, 64):
         is_so = any(most_at_once(program.path, crowd(tasks)) == tasks for _ in range(RACES))
         yield f"all {tasks} tasks of a race have calls in flight at once", is_so
