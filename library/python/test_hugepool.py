@@ -10,6 +10,7 @@ import re
 import signal
 import subprocess
 import sys
+import textwrap
 import time
 from pathlib import Path
 from threading import Thread
@@ -106,6 +107,13 @@ def test_lines_are_explained_alone():
     assert [it.get("line") for it in objects] == [None, 5, 6, None] and "pool" in objects[0] and "end" in objects[-1]
     assert len(hugepool.explain_json(trace).splitlines()) == len(trace.splitlines()) + 1
     assert hugepool.explain_rows(trace, 5, 6).splitlines()[1].split()[0] == "5"
+    for explain in hugepool.explain_rows, hugepool.explain_json:
+        for number in -1, 1 << 32, (1 << 32) + 5:
+            for lines in (number, 6), (5, number):
+                with pytest.raises(hugepool.NoSuch):
+                    explain(trace, *lines)
+        with pytest.raises(TypeError):
+            explain(trace, 5.0, 6)
 
 
 def test_a_loose_text_is_a_trace():
@@ -493,6 +501,16 @@ def test_a_room_that_there_is_no_memory_for():
     """
     ran = subprocess.run([sys.executable, "-c", code], cwd=Path(__file__).parent, capture_output=True, text=True)
     assert ran.stdout == 2 * "OutOfMemory: There was no memory\n", ran.stderr
+
+
+def test_the_programs_of_the_module_s_page_run(capsys):
+    """The first maps four pages, so it prints "begun", and that four are reserved."""
+    first, second = re.findall(r"(?:^    .*\n|^\n(?=    ))+", hugepool.__doc__, re.MULTILINE)
+    exec(textwrap.dedent(first))
+    assert capsys.readouterr().out == "begun\n4\n"
+    exec(textwrap.dedent(second), {"hugepool": hugepool})
+    run, trace = capsys.readouterr().out.split(" ", 1)
+    assert hugepool.minimize(trace.removesuffix("\n"), ["blocked 2", "final resv>0"]) is not None and int(run) >= 0
 
 
 def test_the_version_is_that_of_the_library():

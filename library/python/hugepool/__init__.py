@@ -1,4 +1,4 @@
-"""A pool of huge pages as Linux's hugetlbfs keeps it: the proved library libhugepool, from Python.
+r"""A pool of huge pages as Linux's hugetlbfs keeps it: the proved library libhugepool, from Python.
 
     import hugepool
 

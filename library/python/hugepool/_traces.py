@@ -3,10 +3,11 @@ from __future__ import annotations
 
 from ctypes import Array, byref, c_char, c_size_t, c_uint32
 from mmap import MAP_ANONYMOUS, MAP_PRIVATE, mmap
+from operator import index
 from typing import Callable
 
 from hugepool import _library
-from hugepool._errors import BAD_HEADER, BAD_LINE, NO_MEMORY, OK, TOO_SMALL, BadTrace, error_of
+from hugepool._errors import BAD_HEADER, BAD_LINE, NO_MEMORY, OK, TOO_SMALL, BadTrace, NoSuch, error_of
 
 
 def bytes_of(trace: str | bytes) -> bytes:
@@ -50,8 +51,16 @@ def refuse(data: bytes, code: int, line: int) -> None:
     raise BadTrace(line, why if told == OK else "nothing more can be told")
 
 
-def _text(export: Callable[..., int], trace: str | bytes, *lines: int) -> str:
-    data, line = bytes_of(trace), c_uint32()
+def _number(line: int) -> int:
+    """The number of a line, which has 32 bits."""
+    number = index(line)
+    if not 0 <= number <= _LAST:
+        raise NoSuch(f"no line has the number {number}")
+    return number
+
+
+def _text(export: Callable[..., int], trace: str | bytes, *numbers: int) -> str:
+    data, line, lines = bytes_of(trace), c_uint32(), [_number(it) for it in numbers]
     room = min(_LEAST + _TIMES * len(data), _MOST)
     code, text = put(lambda *it: export(data, len(data), *lines, *it), room, byref(line))
     if code:
