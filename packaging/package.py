@@ -191,8 +191,8 @@ The lines of a crate are the last that the toolchain printed as it proved it, an
 that the proof takes as written ("axioms"). A crate is proved after those that it stands on; one that an earlier
 build proved has no line here.
 
-To check it anew, with the toolchain, in a clone of the repository at that commit: ./check proves everything from
-nothing and tries the mutants; ./package builds these files. docs/PROVED.md lists what is proved, and
+To check it anew, with the toolchain, in a clone of the repository at that commit: ./check all proves everything
+from nothing and runs the tests; ./package builds these files. docs/PROVED.md lists what is proved, and
 docs/LIBRARY.md what is trusted.
 """.splitlines() + [""]
 
