@@ -81,6 +81,16 @@ fn checked(code: u32) -> Result<(), Fault> {
 }
 
 /// An open pool. It may go to another thread, and is used by one at a time.
+///
+/// ```
+/// fn moves<T: Send>() {}
+/// moves::<hugepool::Pool>();
+/// ```
+///
+/// ```compile_fail
+/// fn is_shared<T: Sync>() {}
+/// is_shared::<hugepool::Pool>();
+/// ```
 pub struct Pool {
     // (readers write to it while they run, and leave it as it was)
     handle: UnsafeCell<sys::Handle>,
