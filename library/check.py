@@ -9,8 +9,8 @@ of each trace that isn't long each growth of memory is refused once, and pools t
 examples/commands, and others by conditions of random words; calls that name nothing, closed pools, the largest pool, rooms that are too
 small, and N events of random numbers (200,000; a long try is 10,000,000); and that the library has no variables, which threads would share.
 
-At last the crates for Rust, where there is cargo, each way that they find the library; the Python module, where there is pytest; a wheel
-in an environment of its own, where there are setuptools; and the programs of docs/LIBRARY.md.
+At last a program in C++, where there is c++; the crates for Rust, where there is cargo, each way that they find the library; the Python
+module, where there is pytest; a wheel in an environment of its own, where there are setuptools; and the programs of docs/LIBRARY.md.
 """
 from __future__ import annotations
 
@@ -22,6 +22,8 @@ import subprocess
 import sys
 import tempfile
 from concurrent.futures import ThreadPoolExecutor
+from contextlib import redirect_stderr, redirect_stdout
+from io import StringIO
 from pathlib import Path
 from typing import Iterator
 
@@ -68,7 +70,7 @@ def try_python(room: Path) -> tuple[int, int]:
     """How many tests of the module passed, and how many failed."""
     python = next((it for it in (sys.executable, "/usr/bin/python3") if can(it, "import pytest")), None)
     if python is None:
-        print("library: the Python module isn't tried, since pytest is missing (package: python3-pytest)")
+        print("left out: the Python module, since pytest is missing (package: python3-pytest)")
         return 0, 0
     own = {**os.environ, "HUGEPOOL_LIBRARY": str(share(room)), "PYTHONDONTWRITEBYTECODE": "1"}
     return counted([python, "-m", "pytest", "-q", "-p", "no:cacheprovider", "library/python"], TOP, own)
@@ -85,17 +87,19 @@ def try_wheel(room: Path) -> tuple[int, int]:
     """Whether a wheel installs in an environment of its own, and finds the library that it brings there."""
     python = next((it for it in (sys.executable, "/usr/bin/python3") if can(it, "import ensurepip, setuptools, wheel, venv")), None)
     if python is None:
-        print("library: no wheel is tried, since setuptools are missing (packages: python3-venv, python3-setuptools, python3-wheel)")
+        print("left out: the wheel, since setuptools are missing (packages: python3-venv, python3-setuptools, python3-wheel)")
         return 0, 0
     made, own = room / "made", {it: value for it, value in os.environ.items() if it != "HUGEPOOL_LIBRARY"}
     given = ["PROGRAM=/bin/true", "COMMANDS=none", "PROVED=/dev/null", "VERSION=0"]
     given += [f"ARCHIVE={ARCHIVE}", f"BUILD={made}", f"PYTHON={python}"]
     trace = TOP / "examples" / "map-four-of-four.trace"
     replays = f"import hugepool, sys; sys.stdout.write(hugepool.replay(open({str(trace)!r}).read()))"
+    is_typed = "import hugepool, pathlib; pathlib.Path(hugepool.__file__).with_name('py.typed').stat()"
     steps = [
         ["make", "--file=packaging/Makefile", *given, "wheel"],
         [python, "-m", "venv", room / "venv"],
         [room / "venv" / "bin" / "pip", "install", "--quiet", "--no-index", f"--find-links={made / 'wheel'}", "hugepool"],
+        [room / "venv" / "bin" / "python", "-c", is_typed],
         [room / "venv" / "bin" / "python", "-c", replays],
     ]
     for words in steps:
@@ -127,7 +131,7 @@ def install(room: Path) -> Path:
 def try_rust(room: Path) -> tuple[int, int]:
     """The crates for Rust: linked statically, with a library that pkg-config finds, and with one that the linker finds; and their pages."""
     if shutil.which("cargo") is None:
-        print("library: the crates for Rust aren't tried, since cargo is missing (package: cargo)")
+        print("left out: the crates for Rust, since cargo is missing (package: cargo)")
         return 0, 0
     static, system = install(room), room / "system"
     plain = {it: value for it, value in os.environ.items() if it != "HUGEPOOL_LIB_DIR"} | {"CARGO_TARGET_DIR": str(room / "target")}
@@ -260,6 +264,59 @@ def try_find(room: Path) -> tuple[int, int]:
     return len(FOUND) - wrong, wrong
 
 
+# a program in C++: a closed pool is what it begins with, and what it assigns
+IN_CPP = """#include <hugepool.h>
+#include <cstring>
+int main()
+{
+    hugepool_pool pool = HUGEPOOL_CLOSED;
+    hugepool_config_words config = { 4, 1, 2, 2, 0, false };
+    if (hugepool_open(&pool, &config) != HUGEPOOL_OK)
+        return 1;
+    hugepool_close(&pool);
+    pool = HUGEPOOL_CLOSED;
+    hugepool_pool_words numbers;
+    return std::strcmp(hugepool_strerror(hugepool_pool_numbers(&pool, &numbers)), "the pool is closed");
+}
+"""
+
+
+# in place of the toolchain: it prints what means nothing, and ends as it is told
+NOISY = "print('error[unsupported-theorem]: ..\\n' * 17 + 'so far: 3 of 4\\nlogic=proved sum=0'); raise SystemExit({status})"
+
+
+def try_noise(_: Path) -> tuple[int, int]:
+    """What the toolchain prints of the library is held back where that is proved, while it is said how far it is; and told where it isn't."""
+    toolchain, passed = archive.RT, 0
+    for status in 0, 1:
+        archive.RT = [sys.executable, "-c", NOISY.format(status=status)]
+        with redirect_stderr(StringIO()) as shown, redirect_stdout(shown):
+            try:
+                told = archive.prove("noise") * (status == 0)
+            except archive.Failed as why:
+                told = str(why) * (status == 1)
+        is_well = told.count("unsupported-theorem") == 17 and "unsupported" not in shown.getvalue() and shown.getvalue().startswith("noise: proving it")
+        passed += is_well
+        print("" if is_well else f"library: a toolchain that ends with {status}: {shown.getvalue()}{told}\n", end="")
+    archive.RT = toolchain
+    return passed, 2 - passed
+
+
+def try_cpp(room: Path) -> tuple[int, int]:
+    """Whether a compiler for C++ takes the header, and its program runs."""
+    if shutil.which("c++") is None:
+        print("left out: a program in C++, since c++ is missing (package: g++)")
+        return 0, 0
+    (room / "in_cpp.cc").write_text(IN_CPP, encoding="utf-8")
+    strict = ["-std=c++11", "-Wall", "-Wextra", "-Wpedantic", "-Werror", "-I", LIBRARY / "include", f"-Wl,-rpath,{room}"]
+    for words in ["c++", *strict, "-o", room / "in_cpp", room / "in_cpp.cc", share(room)], [room / "in_cpp"]:
+        ran = subprocess.run(words, capture_output=True, text=True)
+        if ran.returncode:
+            print(f"library: the program in C++: status {ran.returncode}: {ran.stderr}")
+            return 0, 1
+    return 1, 0
+
+
 def main() -> int:
     words = argparse.ArgumentParser(description=__doc__, formatter_class=argparse.RawDescriptionHelpFormatter)
     words.add_argument("--events", type=int, default=200_000, metavar="N", help="events of random numbers (200000)")
@@ -278,7 +335,8 @@ def main() -> int:
             code, told, complaint = run(room / program, str(tries), seed)
             passed, failed = passed + (code == 0), failed + (code != 0)
             print(f"library: {told.decode() or complaint.decode()}", end="")
-        for tried in (try_searches, try_find, try_exports, try_variables, try_rust, try_python, try_wheel, try_page):
+        tries = (try_searches, try_find, try_exports, try_variables, try_noise, try_cpp, try_rust, try_python, try_wheel, try_page)
+        for tried in tries:
             well, wrong = tried(room)
             passed, failed = passed + well, failed + wrong
     print(f"{passed} passed, {failed} failed")
