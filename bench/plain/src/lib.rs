@@ -97,7 +97,7 @@ impl File {
         true
     }
     fn delete(&mut self, grant: bool, i: u32) -> bool {
-        let Some((from, to)) = self.before(i).filter(|r| i < r.1) else { return true };
+        let (from, to) = match self.before(i) { Some(region) if i < region.1 => region, _ => return true };
         if from < i && i + 1 < to {
             if self.spare > self.pending { self.spare -= 1 } else if !grant { return false; }
         }
@@ -109,7 +109,7 @@ impl File {
     fn tail(&mut self, from: u32) -> u32 {
         let removed = LIMIT - from - self.missing(from, LIMIT);
         self.regions.split_off(&from);
-        if let Some(mut last) = self.regions.last_entry() { *last.get_mut() = from.min(*last.get()); }
+        if let Some(end) = self.regions.values_mut().next_back() { *end = from.min(*end); }
         removed
     }
     fn page(&self, i: u32) -> Option<u32> { self.pages.get(&i).copied() }
@@ -130,7 +130,7 @@ impl Task {
         (len <= VPNS - base).then_some(base)
     }
     fn clear(&mut self, base: u32) {
-        let Some(m) = self.mappings.get(&base) else { return };
+        let m = match self.mappings.get(&base) { Some(m) => m, None => return };
         while let Some((&vpn, _)) = self.entries.range(base..base + m.len).next() { self.entries.remove(&vpn); }
     }
     fn clear_index(&mut self, file: u32, i: u32) {
@@ -160,9 +160,9 @@ impl Pool {
     }
 
     pub fn step(&mut self, t: u32, grant: bool) -> Outcome {
-        let Some(task) = (t as usize).checked_sub(1).and_then(|at| self.tasks.get(at)) else { return Outcome::NotAlive };
+        let task = match (t as usize).checked_sub(1).and_then(|at| self.tasks.get(at)) { Some(task) => task, None => return Outcome::NotAlive };
         if task.life == Life::Dead { return Outcome::NotAlive; }
-        let Some(mut call) = task.call else { return Outcome::Idle };
+        let mut call = match task.call { Some(call) => call, None => return Outcome::Idle };
         let killed = task.life == Life::Killed;
         let outcome = self.row(t, killed, grant, &mut call);
         let task = &mut self.tasks[t as usize - 1];
@@ -190,7 +190,7 @@ impl Pool {
                 _ => self.start(t, killed, c),
             },
             Look => {
-                let Some((file, index)) = self.tasks[at].find(c.vpn) else { return Outcome::Ended(Answer::Segv) };
+                let (file, index) = match self.tasks[at].find(c.vpn) { Some(place) => place, None => return Outcome::Ended(Answer::Segv) };
                 match self.tasks[at].translate(c.vpn) {
                     Some(frame) => Outcome::Ended(self.access(c, frame)),
                     None => { c.file = file; c.index = index; Outcome::Moved(Want) }
@@ -229,7 +229,7 @@ impl Pool {
             Changed => {
                 if killed { return go(c, Abort, if c.kind == Kind::Alloc { Answer::Interrupted } else { Answer::Killed }); }
                 let free = self.free.len() as u32;
-                if self.quota.is_some_and(|quota| c.missing > quota - self.used) { return go(c, Abort, Answer::NoQuota); }
+                if matches!(self.quota, Some(quota) if c.missing > quota - self.used) { return go(c, Abort, Answer::NoQuota); }
                 if c.missing > free - self.resv { return go(c, Abort, Answer::NoFrame); }
                 self.used += c.missing;
                 if c.kind == Kind::Map {
@@ -313,7 +313,7 @@ impl Pool {
                 }
             }
             Size => {
-                let end = self.files[f].pages.last_key_value().map_or(0, |(i, _)| i + 1);
+                let end = self.files[f].pages.keys().next_back().map_or(0, |i| i + 1);
                 let top = self.files[f].size.max(end);
                 self.files[f].size = c.len;
                 if top > c.len { c.index = top - 1; Outcome::Moved(Want) } else { Outcome::Moved(Tail) }
@@ -359,8 +359,8 @@ impl Pool {
     }
 
     fn next_mapping(&self, at: usize, c: &mut Call) -> Outcome {
-        match self.tasks[at].mappings.first_key_value() {
-            Some((&base, _)) => { c.base = base; Outcome::Moved(Phase::Clear) }
+        match self.tasks[at].mappings.keys().next() {
+            Some(&base) => { c.base = base; Outcome::Moved(Phase::Clear) }
             None => Outcome::Moved(Phase::Leave),
         }
     }
@@ -390,7 +390,7 @@ impl Pool {
     }
 
     pub fn begin(&mut self, t: u32, call: Call) -> Outcome {
-        let Some(task) = (t as usize).checked_sub(1).and_then(|at| self.tasks.get_mut(at)) else { return Outcome::NotAlive };
+        let task = match (t as usize).checked_sub(1).and_then(|at| self.tasks.get_mut(at)) { Some(task) => task, None => return Outcome::NotAlive };
         if task.life == Life::Dead { return Outcome::NotAlive; }
         if task.call.is_some() { return Outcome::InCall; }
         if task.life == Life::Killed && call.kind != Kind::Exit { return Outcome::NotAlive; }

@@ -157,7 +157,9 @@ pub fn tell_state(out: &mut impl Write, pool: &Pool) -> io::Result<()> {
 fn read_line(input: &mut impl BufRead, line: &mut Vec<u8>) -> io::Result<Option<bool>> {
     line.clear();
     if input.read_until(b'\n', line)? == 0 { return Ok(None); }
-    Ok(Some(line.pop_if(|byte| *byte == b'\n').is_some()))
+    let is_whole = line.last() == Some(&b'\n');
+    if is_whole { line.pop(); }
+    Ok(Some(is_whole))
 }
 
 /// Replays a trace: a line for each event, and at the end those of the state.

@@ -63,7 +63,7 @@ fn read_script() -> Script {
             }
             continue;
         }
-        let Some(Event::Begin(task, call)) = event(line.as_bytes()) else { panic!("no call: {line}") };
+        let (task, call) = match event(line.as_bytes()) { Some(Event::Begin(task, call)) => (task, call), _ => panic!("no call: {line}") };
         if (1..=sizes.tasks).contains(&task) {
             queues[task as usize - 1].push(Waiting { call, after: after.clone() });
         }
@@ -87,7 +87,7 @@ fn explore_one(script: &Script, out: &mut impl Write, seed: u64, run: u32, deny:
             let can = if pool.tasks[at].call.is_some() {
                 pool.waits_for(t).is_none()
             } else {
-                script.queues[at].get(made[at]).is_some_and(|next| next.after.iter().all(|(other, calls)| ended(*other) >= *calls))
+                script.queues[at].get(made[at]).map_or(false, |next| next.after.iter().all(|(other, calls)| ended(*other) >= *calls))
             };
             if can {
                 runnable.push(t);

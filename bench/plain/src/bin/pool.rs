@@ -122,7 +122,7 @@ fn open(threads: u32, files: u32, slots: u32, is_one_file: bool, is_bare: bool) 
 fn race(threads: u32, is_one_file: bool, parts: u32, turns: u32, is_bare: bool) -> u64 {
     let (shared, mut seats) = open(threads, if is_one_file { 1 } else { threads }, 64, is_one_file, is_bare);
     for seat in &mut seats {
-        let Op::Page(file) = seat.op else { unreachable!() };
+        let file = match seat.op { Op::Page(file) => file, Op::Store => unreachable!() };
         let map = format!("map {file} 0 1");
         let words: Vec<&[u8]> = map.as_bytes().split(|byte| *byte == b' ').collect();
         let page = std::mem::replace(&mut seat.page, parsed(&words).expect("a call"));
@@ -177,7 +177,7 @@ fn count(threads: u32, times: u32) -> u64 {
 
 fn main() -> ExitCode {
     let mut words: Vec<String> = std::env::args().skip(1).collect();
-    let is_bare = words.first().is_some_and(|word| word == "bare");
+    let is_bare = words.first().map(String::as_str) == Some("bare");
     if is_bare { words.remove(0); }
     let number = |at: usize| words[at].parse::<u32>().expect("a number");
     let entries = match words.len() {

@@ -21,7 +21,7 @@ struct Words { seconds: u64, seed: u64, room: Room, ours: Program, theirs: Progr
 
 fn read_words() -> Option<Words> {
     let words: Vec<String> = std::env::args().skip(1).collect();
-    let [seconds, seed, folder, programs @ ..] = &words[..] else { return None };
+    let (seconds, seed, folder, programs) = match &words[..] { [seconds, seed, folder, programs @ ..] => (seconds, seed, folder, programs), _ => return None };
     let at = programs.iter().position(|word| word == "--")?;
     Some(Words {
         seconds: seconds.parse().ok()?,
@@ -73,9 +73,12 @@ fn fuzz(words: &Words) -> std::io::Result<bool> {
 }
 
 fn main() -> ExitCode {
-    let Some(words) = read_words() else {
-        eprintln!("usage: fuzz SECONDS SEED FOLDER OURS.. -- THEIRS..");
-        return ExitCode::from(2);
+    let words = match read_words() {
+        Some(words) => words,
+        None => {
+            eprintln!("usage: fuzz SECONDS SEED FOLDER OURS.. -- THEIRS..");
+            return ExitCode::from(2);
+        }
     };
     println!("fuzz: seed {}, {} s", words.seed, words.seconds);
     match fuzz(&words) {

@@ -107,8 +107,9 @@ impl Ended {
     pub fn difference(&self, other: &Ended) -> Option<String> {
         let told = |it: &Ended| it.status.map_or("no end".to_string(), |status| status.to_string());
         if self.output != other.output { return Some(format!("output: {}", first_difference(&self.output, &other.output))); }
-        let Some(complaints) = without_reason(&self.complaints) else {
-            return Some(format!("standard error: ours gives no reason in one line: {:?}", String::from_utf8_lossy(&self.complaints)));
+        let complaints = match without_reason(&self.complaints) {
+            Some(complaints) => complaints,
+            None => return Some(format!("standard error: ours gives no reason in one line: {:?}", String::from_utf8_lossy(&self.complaints))),
         };
         if complaints != other.complaints {
             return Some(format!("standard error: {}", first_difference(complaints, &other.complaints)));

@@ -34,12 +34,12 @@ fn front(kept: &[&[u8]], is_over: impl Fn() -> bool, holds: &mut impl FnMut(&[u8
 pub fn least(text: &[u8], is_over: impl Fn() -> bool, mut holds: impl FnMut(&[u8]) -> bool) -> Vec<u8> {
     let mut kept = lines(text);
     kept.truncate(front(&kept, &is_over, &mut holds));
-    let mut part = kept.len().div_ceil(2).max(1);
+    let mut part = ((kept.len() + 1) / 2).max(1);
     while !is_over() {
         let before = kept.len();
         kept = without_parts(kept, part, &is_over, &mut holds);
         if part > 1 {
-            part = part.div_ceil(2);
+            part = (part + 1) / 2;
         } else if kept.len() == before {
             break;
         }

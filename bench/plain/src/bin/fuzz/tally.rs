@@ -18,7 +18,7 @@ pub struct Tally { traces: u64, events: u64, damaged: u64, refused: u64, met: BT
 // a line up to its first number
 fn kind(line: &[u8]) -> &[u8] {
     let end = line.iter().position(u8::is_ascii_digit).unwrap_or(line.len());
-    line[..end].trim_ascii_end()
+    line[..end].strip_suffix(b" ").unwrap_or(&line[..end])
 }
 
 impl Tally {
