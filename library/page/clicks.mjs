@@ -230,6 +230,15 @@ async function tryAddresses() {
   const hash = await browser.run("location.hash");
   await open(hash);
   await expect("the link leads to the trace", `${isAt(4, 5)} && ${now("After line 5, step 1: moved ")} && document.getElementById("notice").hidden`);
+  // (a script of so many random numbers can't be made small)
+  await act(`const number = () => Math.floor(Math.random() * 4_294_967_296);
+    const lines = Array.from({ length: 80_000 }, () => \`begin 1 store \${number()} 1\${number()}\${number() % 1_000_000_000}\`);
+    const files = new DataTransfer(); files.items.add(new File([["script 1 1 1 1", ...lines].join("\\n")], "long.script")); const it = document.getElementById("file");
+    it.files = files.files; it.dispatchEvent(new Event("change"));`);
+  await expect("a long script", `${text(`${card(1)} .go:not([hidden])`)}.startsWith("begin 1 store ")`);
+  const before = await browser.run("location.hash");
+  await browser.click("#link");
+  await expect("a link that would be too long", `/^The link would have \\d,\\d{3},\\d{3} characters, and browsers take 1,000,000: save a file instead\\.$/.test(${text("#notice")}) && location.hash === ${JSON.stringify(before)}`);
 }
 
 /** Files: one that is opened, and one that is saved. */
@@ -543,6 +552,10 @@ async function tryRoles() {
   await expect("the moves are pinned", `document.getElementById("moves").getBoundingClientRect().top === 0`);
   await expect("each button and field has a name", `[...document.querySelectorAll("button, input, select, textarea")].every((it) => it.hidden || it.closest("[hidden]") || (it.textContent + (it.getAttribute("aria-label") ?? "") + (it.labels?.[0]?.textContent ?? "")).trim() !== "")`);
   await expect("phases have words", `document.querySelector(".task .call b").title.length > 5 && document.querySelectorAll("#phases dt").length === 27`);
+  const meaning = (word) => `[...document.querySelectorAll("#counts dt")].find((it) => it.textContent === "${word}").title`;
+  await expect("what is owed, and a deny, have words", `${meaning("owed")}.includes("resv less no page") && document.querySelector('${turn("deny", 1)}').title.includes("memory")`);
+  await expect("counts have words, but for those that say it", `["frames", "free", "resv", "no page", "audit"].every((it) => [...document.querySelectorAll("#counts dt")].find((dt) => dt.textContent === it).title !== "") && ${meaning("calls in flight")} === ""`);
+  await expect("they stand in the glossary, with the kernel's names", `["owed", "deny"].every((it) => [...document.querySelectorAll("#terms dt")].some((dt) => dt.textContent === it)) && document.querySelectorAll("#terms code").length > 5`);
 }
 
 const asked = process.env.TRIES?.split(" ").map((it) => `try${it}`);

@@ -46,6 +46,9 @@ const TERMS = [
   ["audit", "a check of the whole state by another function; it finds nothing, which is proved", ""],
 ];
 
+/** What a word of the counts means; nothing of one that has no term. */
+const meaningOf = (word) => TERMS.find(([term]) => term.split(", ").includes(word))?.[1] ?? "";
+
 const definition = (word, meaning, kernel) => [
   element("dt", { textContent: word }),
   element("dd", {}, meaning, ...(kernel ? [" (", element("code", { textContent: kernel }), ")"] : [])),

@@ -46,24 +46,36 @@ function noteBegins(keep) {
   }
 }
 
-/** Makes the events of the lines behind so many that are as they were. */
-function makeEvents(keep, count) {
-  const { lines } = trace;
-  if (keep === 0) library.begin(configOf(lines[0]));
-  const events = lines.slice(keep + 1, count + 1).map((it) => words.event(it));
-  trace.outcomes.length = keep;
-  for (const outcome of library.extend(keep, events)) trace.outcomes.push(words.outcome(outcome));
+/** What was made of all events behind so many; null where not all lines are allowed. */
+function madeBehind(keep) {
+  if (!library.run || trace.fault) return null;
+  return { keep, events: library.eventsBehind(keep), outcomes: trace.outcomes.slice(keep) };
 }
 
-/** Runs the lines, of which so many are as they were. Lines that are known to be allowed aren't checked. */
-function readLines(kept, areAllowed) {
+/** Makes the events of the lines behind so many that are as they were, or puts back what was made of them. */
+function makeEvents(keep, count, made) {
+  const { lines, outcomes } = trace;
+  if (keep === 0) library.begin(configOf(lines[0]));
+  outcomes.length = keep;
+  if (made) {
+    library.putBack(keep, made.events);
+    for (const it of made.outcomes) outcomes.push(it);
+    return;
+  }
+  const events = lines.slice(keep + 1, count + 1).map((it) => words.event(it));
+  for (const outcome of library.extend(keep, events)) outcomes.push(words.outcome(outcome));
+}
+
+/** Runs the lines, of which so many are as they were. Lines that are known to be allowed aren't checked, and those of which it is known what
+ *  was made of them aren't made once more. */
+function readLines(kept, { areAllowed = false, made = null }) {
   const { lines } = trace;
-  const fault = areAllowed ? null : faultOf(lines);
+  const fault = areAllowed || made ? null : faultOf(lines);
   if (fault && (fault.isHeader || fault.line === 0)) return closeTrace(fault);
   const count = fault ? fault.line - 2 : lines.length - 1;
   const keep = library.run ? Math.max(0, Math.min(kept - 1, trace.count, count)) : 0;
   try {
-    makeEvents(keep, count);
+    makeEvents(keep, count, made?.keep === keep ? made : null);
     Object.assign(trace, { count, fault });
     noteBegins(keep);
     followEvents(Math.min(keep, drawn));
@@ -75,11 +87,12 @@ function readLines(kept, areAllowed) {
 
 // ---- changing
 
-/** Has these lines behind so many that stay, and shows the moment behind so many events; the lines that went. */
-function replaceLines(kept, more, place, areAllowed = false) {
-  const removed = trace.lines.splice(kept);
-  for (const it of more) trace.lines.push(it);
-  readLines(kept, areAllowed);
+/** Has these lines behind so many that stay, and shows the moment behind so many events; the lines that went, with what was made of them. */
+function replaceLines(kept, part, place) {
+  const made = madeBehind(Math.max(0, kept - 1));
+  const removed = { lines: trace.lines.splice(kept), made };
+  for (const it of part.lines) trace.lines.push(it);
+  readLines(kept, part);
   at = Math.min(place, trace.count);
   if (library.run) library.go(at);
   showTrace(kept);
@@ -95,29 +108,31 @@ function surround(by) {
 }
 
 /** Changes the trace so that it can be undone; `by` are the script and the example that are shown then, and whether the lines are allowed. */
-function change(kept, more, place, by = {}) {
+function change(kept, lines, place, by = {}) {
   const before = surroundings();
   surround({ ...before, ...by });
-  const removed = replaceLines(kept, more, place, by.areAllowed);
+  const more = { lines, areAllowed: by.areAllowed };
+  const removed = replaceLines(kept, more, place);
   past.push({ kept, removed, more, before, after: surroundings() });
   future = [];
-  const size = () => past.reduce((sum, it) => sum + it.removed.length + it.more.length, 0);
+  const size = () => past.reduce((sum, it) => sum + it.removed.lines.length + it.more.lines.length, 0);
   while (past.length > MOST_PAST || (past.length > 1 && size() > MOST_PAST_LINES)) past.shift();
   showPast();
 }
 
-/** Takes the last change of a list, has the lines and the surroundings that it has by these names, and keeps it in the other list. */
-function shift(from, to, lines, when) {
+/** Takes the last change of a list, has the lines and the surroundings that it has by these names, in place of its other lines, and keeps it
+ *  in the other list. */
+function shift(from, to, part, other, when) {
   const last = from.pop();
   if (!last) return;
   surround(last[when]);
-  replaceLines(last.kept, last[lines], last[when].at);
+  last[other] = replaceLines(last.kept, last[part], last[when].at);
   to.push(last);
   showPast();
 }
 
-const undo = () => shift(past, future, "removed", "before");
-const redo = () => shift(future, past, "more", "after");
+const undo = () => shift(past, future, "removed", "more", "before");
+const redo = () => shift(future, past, "more", "removed", "after");
 
 /** An event behind the moment that is shown; it replaces what came there. (what buttons and fields make is allowed in any trace) */
 function append(event) {

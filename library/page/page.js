@@ -87,19 +87,19 @@ function isNews(part, words) {
 function showPool(pool) {
   const found = library.audit();
   const counts = [
-    ["frames", pool.frames],
-    ["free", pool.free],
+    ["frames", pool.frames, "frame"],
+    ["free", pool.free, "frame"],
     ["resv", pool.resv],
     ["no page", pool.resv - pool.owed],
     ["owed", pool.owed],
-    ...(pool.has_quota ? [[`used of a quota of ${pool.quota}`, pool.used]] : []),
+    ...(pool.has_quota ? [[`used of a quota of ${pool.quota}`, pool.used, "used"]] : []),
     ["calls in flight", pool.calls],
-    ["audit", found === 0 ? "ok" : `wrong: ${words.findings[found]}`, found === 0 ? "good" : "hot"],
+    ["audit", found === 0 ? "ok" : `wrong: ${words.findings[found]}`, "audit", found === 0 ? "good" : "hot"],
   ];
   if (!isNews("counts", counts.join())) return;
   $("counts").replaceChildren(
-    ...counts.map(([name, count, className = ""]) =>
-      element("div", {}, element("dt", { textContent: name }), element("dd", { textContent: count, className })),
+    ...counts.map(([name, count, word = name, className = ""]) =>
+      element("div", {}, element("dt", { textContent: name, title: meaningOf(word) }), element("dd", { textContent: count, className })),
     ),
   );
   showBar(pool);

@@ -151,6 +151,21 @@ export class Library {
     return this.readAll("outcome_words", this.placeOf("outcomes", "outcome_words", keep), events.length);
   }
 
+  /** The events behind so many, in bytes, by which they can be put back. */
+  eventsBehind(keep) {
+    return this.bytes(this.placeOf("events", "event_words", keep), this.structs.event_words.size * (this.run.count - keep)).slice();
+  }
+
+  /** Has these events behind so many that stay, in place of what came there. What came of each is known: they are made where it is gone to
+   *  a moment behind them. */
+  putBack(keep, events) {
+    this.go(Math.min(keep, this.run.at));
+    this.run.count = keep;
+    this.widen(keep + events.length / this.structs.event_words.size);
+    this.bytes(this.placeOf("events", "event_words", keep), events.length).set(events);
+    this.run.count = keep + events.length / this.structs.event_words.size;
+  }
+
   /** Opens a pool and makes all events; what came of each. */
   start(config, events) {
     this.begin(config);

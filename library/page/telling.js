@@ -1,7 +1,7 @@
 // Texts of a long run: a worker of the page's own asks its library for them, since the page would stand still for so long.
 
-// of so many events times tasks the page asks itself
-const AT_ONCE = 100_000;
+// of so many events, with the tasks that may wait, the page asks itself
+const AT_ONCE = 10_000;
 
 /** The worker: undefined before it is made, and null where there can't be one. */
 let teller;
@@ -9,7 +9,7 @@ let teller;
 const asked = new Map();
 const waiting = new Map();
 
-const isLong = () => trace.count * library.run.config.tasks > AT_ONCE;
+const isLong = () => trace.count * (2 + library.run.config.tasks) > AT_ONCE;
 
 function ask(reason, it) {
   asked.set(reason, it);
