@@ -55,7 +55,7 @@ WRONG = [
     Wrong("a mapping too many fits", ROWS, "(len <= VPNS - base)", "(len <= VPNS + 1 - base)"),
     Wrong("leading zeros are read", TEXT, "|| field.len() > 1 && field[0] == b'0'", ""),
     Wrong("numbers wrap", TEXT, "number(field, u64::from(u32::MAX))", "number(field, u64::MAX)"),
-    Wrong("a carriage return is let pass", TEXT, "line.pop_if(|byte| *byte == b'\\n').is_some()", "{ let is_whole = line.pop_if(|byte| *byte == b'\\n').is_some(); line.pop_if(|byte| *byte == b'\\r'); is_whole }"),
+    Wrong("a carriage return is let pass", TEXT, "if is_whole { line.pop(); }", "if is_whole { line.pop(); if line.last() == Some(&b'\\r') { line.pop(); } }"),
     Wrong("a last line without its end is read", TEXT, "if whole && events", "if events"),
     Wrong("4,097 frames are allowed", TEXT, "within(all[1], 1, MOST_FRAMES)", "within(all[1], 1, MOST_FRAMES + 1)"),
     Wrong("the wrong line is named", TEXT, "Fault::BadLine(events + 1)", "Fault::BadLine(events)"),
