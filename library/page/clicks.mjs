@@ -110,6 +110,8 @@ async function tryEvents() {
   await browser.press("z", { ctrl: true });
   await browser.press("z", { ctrl: true });
   await expect("undone", isAt(8, 17));
+  await browser.click("#last");
+  await expect("what was undone ends as it did", `${now("After line 18, step 2: ended mapped 0")} && ${text("#counts")}.startsWith("frames4free4resv4")`);
   await browser.press("z", { ctrl: true, shift: true });
   await expect("made again", isAt(9, 9));
   await browser.click("#redo");
@@ -122,6 +124,12 @@ async function tryEvents() {
   await expect("what its next step does, in Linux, too", `${text(`${card(1)} .linux`)} === "next: looks whether the page is mapped, and translated already (Linux: hugetlb_fault)"`);
   await browser.click(turn("deny", 1));
   await expect("its end", `${text("#now")}.includes("ended segv")`);
+  await type(["pool 4 1 4 2", "begin 1 map 0 0 2", "step 1", "stop 1"]);
+  await expect("a line that is wrong", `${isAt(2, 2)} && ${text("#fault")}.startsWith("Line 4 is not allowed here: ")`);
+  await browser.click(turn("kill", 1));
+  await expect("a turn in its place", `${isAt(3, 3)} && document.getElementById("fault").hidden`);
+  await browser.click("#undo");
+  await expect("it is wrong again", `${isAt(2, 2)} && ${text("#fault")}.startsWith("Line 4 is not allowed here: ")`);
 }
 
 async function tryFields() {
