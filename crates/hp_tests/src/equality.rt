@@ -2,40 +2,18 @@
 use hp_base::{Answer, Task, Vpn};
 use hp_core::{Life, Outcome, Phase, Refusal, RunFault, Tally};
 use hp_part_tests::differing::all_differ;
+use hp_phases::{PHASES, phase_at};
 use hp_replay::ReplayFault;
+use std::test::Fail;
 
 #[test]
-fn phases_differ(rt: HostRuntime) {
-    let phases = [
-        Phase::Start,
-        Phase::Look,
-        Phase::Want,
-        Phase::Locked,
-        Phase::Missing,
-        Phase::Changed,
-        Phase::Abort,
-        Phase::Taken,
-        Phase::Settle,
-        Phase::Committed,
-        Phase::Restore,
-        Phase::Found,
-        Phase::Leave,
-        Phase::Room,
-        Phase::Accounted,
-        Phase::Enter,
-        Phase::Head,
-        Phase::Unslot,
-        Phase::Extend,
-        Phase::Unmap,
-        Phase::Evict,
-        Phase::Delete,
-        Phase::Free,
-        Phase::Size,
-        Phase::Tail,
-        Phase::Clear,
-        Phase::Drop,
-    ];
-    assert!(rt; all_differ(&phases));
+fn phases_differ(rt: HostRuntime) -> Result<(), Fail> {
+    let mut phases = Vec::new(rt.alloc());
+    for place in 0..PHASES {
+        phases.push(phase_at(place))?;
+    }
+    assert!(rt; all_differ(phases.as_slice()));
+    Ok(())
 }
 
 #[test]
