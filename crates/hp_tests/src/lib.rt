@@ -1,7 +1,7 @@
 //! Tests of the core and of traces: whole pictures of a pool, copies of it, what a trace is read as and what a replay of it
-//! writes, which of the values that they tell are equal, and worked rows from end to end, line by line. What a trace and its
-//! output can say stands in `examples/`. Streams break at each of their calls in turn: readers that give a byte a call and fail,
-//! writers that take a byte a call, and fail or take none. And which lines a source recalls, however it is read.
+//! writes, which of the values that they tell are equal, and what tasks see of worked rows from end to end. What a trace and
+//! its output can say line by line stands in `examples/`. Streams break at each of their calls in turn: readers that give a byte
+//! a call and fail, writers that take a byte a call, and fail or take none. And which lines a source recalls, however it is read.
 //!
 //! It stands on the crates that it tests, and makes their public calls. It stands apart because a crate with
 //! tests is proved twice, once for itself and once with its tests: here there is little to prove but the tests,

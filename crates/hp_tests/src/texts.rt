@@ -6,19 +6,10 @@ use hp_replay::{
 use std::alloc::{AllocError, Global};
 use std::process::Abort;
 
-/// Replays the bytes.
-pub(crate) fn replay_to(
-    alloc: Global,
-    mut bytes: &[u8],
-    out: &mut Vec<u8>,
-) -> Result<(), ReplayFault> {
-    replay(alloc, &mut bytes, &mut Watched::new(out))
-}
-
 /// What a replay of the bytes answers, and what it writes.
-pub(crate) fn replayed(alloc: Global, bytes: &[u8]) -> (Result<(), ReplayFault>, Vec<u8>) {
+pub(crate) fn replayed(alloc: Global, mut bytes: &[u8]) -> (Result<(), ReplayFault>, Vec<u8>) {
     let mut out = Vec::new(alloc);
-    let answer = replay_to(alloc, bytes, &mut out);
+    let answer = replay(alloc, &mut bytes, &mut Watched::new(&mut out));
     (answer, out)
 }
 

@@ -1,75 +1,16 @@
-//! What no clause says: that calls succeed, the texts of the faults, and fakes that fail.
-ghost use Rattle.std.specs.Prelude.{Some};
-
-use crate::texts::{add_lines, is_written, lines, read, replay_to, replayed};
+//! What no clause says of traces: that they are read, counted and replayed, which fault each wrong one has, and the texts of
+//! the faults.
+use crate::texts::{add_lines, checked, is_written, lines, read, replayed};
 use hp_base::{Config, Event, File, Index, Op, Task};
 use hp_replay::{
-    MOST_EVENTS, ReplayFault, Trace, TraceFeed, TraceLine, Watched,
-    a_stopped_replay_names_the_fault, bytes_have_one_reading, pieces_do_not_show, read_trace,
-    replay, what_is_held_is_spelled,
+    MOST_EVENTS, ReplayFault, Trace, TraceFeed, TraceLine, a_stopped_replay_names_the_fault,
+    bytes_have_one_reading, pieces_do_not_show, what_is_held_is_spelled,
 };
 use std::alloc::{AllocError, Global};
-use std::io;
-use std::io::{ErrorKind, Read, Write};
 use std::process::Abort;
 use std::test::Fail;
 
 const TRACE: &[u8] = b"pool 1 1 1 1\nbegin 1 map 0 0 1\ndeny 1\ndeny 1\n";
-
-/// Takes one byte a call, and from some call on none, or answers an error.
-#[derive(Drop)]
-struct SmallWriter {
-    taken: Vec<u8>,
-    calls: usize,
-    is_quiet: bool,
-}
-
-impl Write for SmallWriter {
-    ghost contents = { λ writer. Some writer.taken.items };
-
-    fn write(&mut self, buf: &[u8]) -> io::Result<usize> {
-        if self.calls == 0 && !self.is_quiet {
-            return Err(io::Error::from(ErrorKind::Interrupted));
-        }
-        match buf {
-            [first, ..] if self.calls != 0 => {
-                self.taken.push(*first)?;
-                self.calls -= 1;
-                Ok(1)
-            }
-            _ => Ok(0),
-        }
-    }
-
-    fn flush(&mut self) -> io::Result<()> {
-        Ok(())
-    }
-}
-
-/// Gives one byte a call, and from some call on answers an error.
-#[derive(Drop)]
-struct SmallReader<'a> {
-    bytes: &'a [u8],
-    calls: usize,
-}
-
-impl Read for SmallReader<'_> {
-    fn read(&mut self, buf: &mut [u8]) -> io::Result<usize> {
-        if self.calls == 0 {
-            return Err(io::Error::from(ErrorKind::Interrupted));
-        }
-        self.calls -= 1;
-        let [first, rest @ ..] = self.bytes else {
-            return Ok(0);
-        };
-        if buf.is_empty() {
-            return Ok(0);
-        }
-        buf[0] = *first;
-        self.bytes = rest;
-        Ok(1)
-    }
-}
 
 /// Asserts that these are the trace's events.
 fn has_events(rt: &impl Abort, trace: &Trace, events: &[Event]) {
@@ -108,11 +49,12 @@ fn a_trace_has_one_text(rt: HostRuntime) -> Result<(), Fail> {
     Ok(())
 }
 
-/// Asserts that a replay and a reading of the bytes have this fault. What the replay writes is the answer.
+/// Asserts that a replay, a reading and a check of the bytes have this fault. What the replay writes is the answer.
 fn has_fault(rt: &impl Abort, alloc: Global, bytes: &[u8], fault: ReplayFault) -> Vec<u8> {
     let (answer, written) = replayed(alloc, bytes);
     assert_eq!(rt; answer, Err(fault), "{bytes:?}");
     assert_eq!(rt; read(alloc, bytes).err(), Some(fault), "{bytes:?}");
+    assert_eq!(rt; checked(bytes), Err(fault), "{bytes:?}");
     written
 }
 
@@ -183,6 +125,13 @@ fn the_first_bad_line_is_named(rt: HostRuntime) -> Result<(), Fail> {
     Ok(())
 }
 
+#[test]
+fn a_cut_trace_is_run_up_to_its_end(rt: HostRuntime) {
+    let fault = ReplayFault::BadLine(3);
+    let written = has_fault(&rt, rt.alloc(), b"pool 1 1 1 1\nbegin 1 exit\nstep", fault);
+    assert_eq!(rt; written.as_slice(), b"begun\n".as_slice());
+}
+
 /// Asserts that a replay of the bytes has no fault, and writes this.
 fn writes(rt: &impl Abort, alloc: Global, bytes: &[u8], told: &[u8]) {
     let (answer, written) = replayed(alloc, bytes);
@@ -214,6 +163,41 @@ fn the_longest_numbers_are_read(rt: HostRuntime) -> Result<(), Fail> {
     };
     has_events(&rt, &trace, &[Event::Begin(Task::new(1), op)]);
     Ok(())
+}
+
+/// Asserts that each of the texts has so many events, and that a replay of it has no fault and writes this first.
+fn are_counted(rt: &impl Abort, alloc: Global, texts: &[(&[u8], u32, &[u8])]) {
+    for (bytes, events, outcomes) in texts {
+        assert_eq!(rt; checked(bytes), Ok(*events), "{bytes:?}");
+        let (answer, written) = replayed(alloc, bytes);
+        assert_eq!(rt; answer, Ok(()), "{bytes:?}");
+        assert!(rt; written.starts_with(outcomes), "{bytes:?}");
+    }
+}
+
+#[test]
+fn traces_of_the_longest_numbers_are_counted_and_replayed(rt: HostRuntime) {
+    are_counted(
+        &rt,
+        rt.alloc(),
+        &[
+            (
+                &b"pool 1 1 1 1\nstep 4294967295\n"[..],
+                1,
+                b"refused notalive\nfree 1 ",
+            ),
+            (
+                b"pool 1 1 1 1\nbegin 1 store 0 18446744073709551615\nstep 1\n",
+                2,
+                b"begun\nended segv\nfree 1 ",
+            ),
+            (
+                b"pool 1 1 1 1\nbegin 1 map 0 4294967295 4294967295\nstep 1\n",
+                2,
+                b"begun\nended badrange\nfree 1 ",
+            ),
+        ],
+    );
 }
 
 /// What a feed tells of some bytes: the headers, the events and the lines.
@@ -297,18 +281,12 @@ fn a_feed_takes_any_pieces(rt: HostRuntime) -> Result<(), Fail> {
     Ok(())
 }
 
-/// Asserts that a replay of the bytes has no fault, and writes so many lines.
-fn writes_lines(rt: &impl Abort, alloc: Global, bytes: &[u8], count: usize) {
+/// Asserts that the bytes have so many events, and that a replay of them has no fault, and writes so many lines.
+fn writes_lines(rt: &impl Abort, alloc: Global, bytes: &[u8], events: u32, count: usize) {
+    assert_eq!(rt; checked(bytes), Ok(events));
     let (answer, written) = replayed(alloc, bytes);
     assert_eq!(rt; answer, Ok(()));
     assert_eq!(rt; lines(written.as_slice()), count);
-}
-
-/// Asserts that a replay of the bytes has this fault, and writes so many bytes before it.
-fn writes_bytes(rt: &impl Abort, alloc: Global, bytes: &[u8], fault: ReplayFault, count: usize) {
-    let (answer, written) = replayed(alloc, bytes);
-    assert_eq!(rt; answer, Err(fault));
-    assert_eq!(rt; written.len(), count);
 }
 
 #[test]
@@ -316,101 +294,11 @@ fn a_million_events_are_enough(rt: HostRuntime) -> Result<(), Fail> {
     let alloc = rt.alloc();
     let mut bytes = b"pool 1 1 1 1\n".to_vec(alloc)?;
     add_lines(&mut bytes, b"step 1\n", MOST_EVENTS)?;
-    writes_lines(&rt, alloc, bytes.as_slice(), MOST_EVENTS + 3);
+    writes_lines(&rt, alloc, bytes.as_slice(), 1_000_000, MOST_EVENTS + 3);
     add_lines(&mut bytes, b"step 1\n", 1)?;
     let fault = ReplayFault::BadLine(1_000_002);
-    writes_bytes(&rt, alloc, bytes.as_slice(), fault, 13 * MOST_EVENTS);
-    Ok(())
-}
-
-/// What a replay of the trace to a writer answers, and whether the writer failed.
-fn replay_small(alloc: Global, writer: &mut SmallWriter) -> (Result<(), ReplayFault>, bool) {
-    let mut sink = Watched::new(writer);
-    let answer = replay(alloc, &mut &TRACE[..], &mut sink);
-    (answer, sink.has_failed())
-}
-
-/// Asserts that a writer of this kind that fails after so many calls is told of, and has taken so much of the text.
-fn write_fails(rt: &impl Abort, alloc: Global, calls: usize, is_quiet: bool, text: &[u8]) {
-    let mut writer = SmallWriter {
-        taken: Vec::new(alloc),
-        calls,
-        is_quiet,
-    };
-    let (answer, failed) = replay_small(alloc, &mut writer);
-    assert_eq!(rt; answer, Err(ReplayFault::Write));
-    assert!(rt; failed);
-    assert_eq!(rt; Some(writer.taken.as_slice()), text.get(..calls));
-}
-
-/// Asserts that a writer that never fails has taken the text.
-fn write_goes_well(rt: &impl Abort, alloc: Global, text: &[u8]) {
-    let mut writer = SmallWriter {
-        taken: Vec::new(alloc),
-        calls: usize::MAX,
-        is_quiet: false,
-    };
-    let (answer, failed) = replay_small(alloc, &mut writer);
-    assert_eq!(rt; answer, Ok(()));
-    assert!(rt; !failed);
-    assert_eq!(rt; writer.taken.as_slice(), text);
-}
-
-#[test]
-fn a_failed_write_is_told(rt: HostRuntime) -> Result<(), Fail> {
-    let alloc = rt.alloc();
-    let mut text = Vec::new(alloc);
-    replay_to(alloc, TRACE, &mut text)?;
-    for calls in 0..text.len() {
-        write_fails(&rt, alloc, calls, false, text.as_slice());
-        write_fails(&rt, alloc, calls, true, text.as_slice());
-    }
-    write_goes_well(&rt, alloc, text.as_slice());
-    Ok(())
-}
-
-/// A reader of the trace that fails after so many calls.
-fn small_reader(calls: usize) -> Watched<SmallReader<'static>> {
-    Watched::new(SmallReader {
-        bytes: TRACE,
-        calls,
-    })
-}
-
-/// What a replay from a reader answers, and whether the reader failed.
-fn replay_from(
-    alloc: Global,
-    mut source: Watched<SmallReader<'_>>,
-    out: &mut Vec<u8>,
-) -> (Result<(), ReplayFault>, bool) {
-    let answer = replay(alloc, &mut source, &mut Watched::new(out));
-    (answer, source.has_failed())
-}
-
-/// The trace that is read from a reader.
-fn read_from(alloc: Global, mut source: Watched<SmallReader<'_>>) -> Result<Trace, ReplayFault> {
-    read_trace(alloc, &mut source)
-}
-
-/// Asserts that a reader that fails after so many calls is told of, and that only a beginning of the text is written.
-fn read_fails(rt: &impl Abort, alloc: Global, calls: usize, text: &[u8]) {
-    let mut written = Vec::new(alloc);
-    let (answer, failed) = replay_from(alloc, small_reader(calls), &mut written);
-    assert!(rt; failed);
-    assert_eq!(rt; answer, Err(ReplayFault::Read));
-    assert!(rt; text.starts_with(written.as_slice()));
-    let answer = read_from(alloc, small_reader(calls));
-    assert_eq!(rt; answer.err(), Some(ReplayFault::Read));
-}
-
-#[test]
-fn a_failed_read_is_told(rt: HostRuntime) -> Result<(), Fail> {
-    let alloc = rt.alloc();
-    let mut text = Vec::new(alloc);
-    replay_to(alloc, TRACE, &mut text)?;
-    for calls in 0..=TRACE.len() {
-        read_fails(&rt, alloc, calls, text.as_slice());
-    }
+    let written = has_fault(&rt, alloc, bytes.as_slice(), fault);
+    assert_eq!(rt; written.len(), 13 * MOST_EVENTS);
     Ok(())
 }
 
