@@ -11,6 +11,7 @@ let wordAdded = "answer";
 /** For what the form has its fields: they are made anew where that is another. */
 let shownFields = "";
 let reading = 0;
+let showing = 0;
 
 // ---- what is asked for
 
@@ -151,6 +152,12 @@ function showCondition() {
   if (second) second.selectedIndex = Math.min(1, second.options.length - 1);
   $("condition-not").closest("label").hidden = fields.length === 0;
   $("condition-means").textContent = `${wordAdded}: ${CONDITIONS[wordAdded].means}.`;
+}
+
+/** Has the fields follow the trace once nothing else is asked for: they have hundreds of choices, and nobody looks at them meanwhile. */
+function showConditionSoon() {
+  clearTimeout(showing);
+  showing = setTimeout(showCondition, READING);
 }
 
 function addCondition(event) {

@@ -36,13 +36,11 @@ function closeTrace(fault) {
 
 /** Keeps of each task where its begins are. */
 function noteBegins(keep) {
-  for (const places of trace.begins.values()) places.length = countBelow(places, keep);
-  for (let place = keep; place < trace.count; place++) {
-    const line = trace.lines[place + 1];
-    if (!line.startsWith("begin ")) continue;
-    const task = Number(line.split(" ", 2)[1]);
-    if (!trace.begins.has(task)) trace.begins.set(task, []);
-    trace.begins.get(task).push(place);
+  const { lines, count, begins } = trace;
+  for (const places of begins.values()) places.length = countBelow(places, keep);
+  for (let place = keep; place < count; place++) {
+    const line = lines[place + 1];
+    if (line.startsWith("begin ")) putBehind(begins, Number(line.split(" ", 2)[1]), place);
   }
 }
 

@@ -37,7 +37,7 @@ function showTrace(kept) {
   setRows(list, Math.min(trace.lines.length, MOST_EVENTS + 2), Math.max(0, kept - 1));
   showFault();
   showText();
-  showCondition();
+  showConditionSoon();
   showSearches();
   showBeside();
   if (library.run) showMoment();
