@@ -533,6 +533,8 @@ async function tryLooks() {
       await open("#calls-in-flight");
       await expect(`nothing is wider than ${width} pixels`, `document.documentElement.scrollWidth <= ${width}`);
       await expect("the picture is in the first screen", `document.getElementById("picture").getBoundingClientRect().bottom <= 900`);
+      const sunk = light === "dark" ? "rgb(35, 39, 47)" : "rgb(240, 242, 246)";
+      await expect("so have bars by which it is scrolled", `getComputedStyle(document.getElementById("picture")).scrollbarColor.endsWith("${sunk}")`);
       await expect("it has the light that is asked for", `getComputedStyle(document.body).backgroundColor === "${light === "dark" ? "rgb(20, 22, 27)" : "rgb(246, 247, 249)"}"`);
       if (pictures) fs.writeFileSync(path.join(pictures, `page-${kind.name}-${width}-${light}.png`), await browser.picture());
       await act(`for (const it of document.querySelectorAll("details")) it.open = true; document.getElementById("keep").click(); document.getElementById("ask").click();`);
