@@ -333,14 +333,6 @@ def dues(top: Path) -> Iterator[tuple[str, bool]]:
     yield "a change that isn't committed does, too", due(top, tried, every) == every
 
 
-def statuses() -> Iterator[tuple[str, bool]]:
-    """With which status a report ends."""
-    right, wrong = ("so", True), ("not so", False)
-    with contextlib.redirect_stdout(io.StringIO()):
-        found = [report("a report", it) for it in ([], [right], [wrong], [right, wrong], [wrong, right], iter([right]))]
-    yield "a report of nothing, or of what isn't so, fails", found == [1, 0, 1, 1, 1, 0]
-
-
 def tries_in(part: Callable, crates: dict[str, list[str]] | None) -> list[tuple[str, bool]]:
     with tempfile.TemporaryDirectory(prefix="launcher-") as name:
         return [*part(Room(Path(name), crates) if crates else Path(name))]
@@ -349,7 +341,9 @@ def tries_in(part: Callable, crates: dict[str, list[str]] | None) -> list[tuple[
 def tries() -> Iterator[tuple[str, bool]]:
     parts = [*((part, CRATES) for part in (unproved, proofs, staleness)), (stands_on, crates_of()), (side_by_side, SIDE_BY_SIDE)]
     parts.append((dues, None))
-    yield from statuses()
+    with contextlib.redirect_stdout(io.StringIO()):
+        found = [report("a report", ((str(it), it) for it in several)) for several in ([], [1], [0], [1, 0], [0, 1])]
+    yield "a report of nothing, or of what isn't so, fails", found == [1, 0, 1, 1, 1]
     with ThreadPoolExecutor(len(parts)) as pool:
         for found in pool.map(lambda it: tries_in(*it), parts):
             yield from found
