@@ -77,8 +77,9 @@ PACKAGES |= {"cargo": "cargo", "node": "nodejs", "pytest": "python3-pytest", "js
 MODULES = {"pytest": "/usr/bin/python3", "jsonschema": "python3"}
 COUNTS = re.compile(r"^(?:[\w ]+: )?(\d+) passed, (\d+) failed$", re.M)
 BEGAN = time.monotonic()
-# minutes of all proofs from nothing, behind which too little of three hours is left for those of the library once more
-LONG = 90
+# minutes of all proofs from nothing, behind which too little of three hours is left for those of the library once more; and those behind
+# which no mutant is tried any more
+LONG, ENOUGH = 90, 160
 # (without a network apt-get gives up soon)
 QUICKLY = ("-o", "Acquire::Retries=0", "-o", "Acquire::http::Timeout=10")
 
@@ -205,13 +206,15 @@ def library(gate: Gate) -> bool:
 
 def everything(gate: Gate, _: list[str]) -> bool:
     """All others rest on what `rt ci` proves, so they are left out where that fails. Some kits keep nothing of it for other commands: there
-    the library is proved from nothing once more, but not on a machine on which all would take over three hours."""
+    the library is proved from nothing once more, but not on a machine on which all would take over three hours; nor are all mutants tried
+    there: those that aren't stay due."""
     if not proofs(gate, []):
         gate.left_out.append("left out: all tests and mutants, since they rest on what is proved")
         return False
     is_kept, minutes = (TOP / "crates" / "hp_core" / "out" / "rlib" / "stamp").exists(), (time.monotonic() - BEGAN) / 60
     steps = [] if minutes > LONG and not is_kept else [library]
-    return all([*(step(gate) for step in steps), tests(gate, [*GROUPS]), mutants(gate, [])])
+    fine = [*(step(gate) for step in steps), tests(gate, [*GROUPS])]
+    return all([*fine, mutants(gate, ["--minutes", f"{ENOUGH - (time.monotonic() - BEGAN) / 60:.0f}"])])
 
 
 STEPS: dict[str, Callable[[Gate, list[str]], bool]] = {

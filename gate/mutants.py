@@ -1,12 +1,13 @@
 #!/usr/bin/env python3
 """Tries the mutants: the prover must refuse each wrong body for its own sake.
 
-usage: ./check mutants [CRATE ..] [--all]
+usage: ./check mutants [CRATE ..] [--all] [--minutes M]
 
 Of crates that are named it tries all mutants. Without a name it tries those of each crate of which a commit since the time in
 gate/tried.txt changed more than comments in src/, specs/, edits/, must-fail/ or must-not-compile/, or that has any change there
 uncommitted. With --all it tries all. Where all of a crate are refused, and none of its files is changed, the time at which the trial
 began stands in that file then: first that of all crates, and behind it those of crates that were tried later, as long as any is due.
+What isn't tried within --minutes is left out, and stays due.
 
 The mutants of a crate stand in its folders must-fail/ (those that the toolchain's gate tries too), edits/ and must-not-compile/
 (those that the compiler refuses, with the error that they name). The toolchain tries each in its function's place (`rt must-fail`), in
@@ -46,6 +47,7 @@ START = time.monotonic()
 # what the toolchain says of a mutant that it tried, and how it begins where the mutant is refused for its own sake
 TOLD = re.compile(r"^rt: must-fail (\w+)/([\w.-]+)\.edit: (.*)$", re.M)
 REFUSED, BY_A_NAME = "refused, as it must be", "only because a proof file names"
+NOT_BUILT = "check: the libraries below these crates aren't proved, so no mutant was tried"
 # so many of a crate, at least, are tried one after another: the first of them costs a check of the whole crate
 PART = 16
 
@@ -138,25 +140,38 @@ def copy_crate(name: str, top: Path) -> Path:
     return top / "crates" / name
 
 
-def run(words: list[str], folder: Path) -> str:
-    """What a command of the toolchain prints."""
+def left_until(end: float) -> float | None:
+    """The seconds that are left, if there is an end."""
+    return None if end == float("inf") else max(0.0, end - time.monotonic())
+
+
+def run(words: list[str], folder: Path, end: float) -> str:
+    """What a command of the toolchain prints, if it ends by then."""
     how = {"stdin": subprocess.DEVNULL, "stdout": subprocess.PIPE, "stderr": subprocess.STDOUT, "text": True, "errors": "replace"}
-    return subprocess.run(words, cwd=folder, **how).stdout
+    return subprocess.run(words, cwd=folder, timeout=left_until(end), **how).stdout
 
 
-def try_to_compile(mutant: Mutant, folder: Path) -> str | None:
+def try_to_compile(mutant: Mutant, folder: Path, end: float) -> str | None:
     """What is wrong with a mutant that must not compile, if anything is."""
     texts = mutant.texts()
     for path, text in texts.items():
         (folder / path).write_text(text, encoding="utf-8")
-    codes = re.findall(r"^\S+:\d+:\d+: error\[([\w-]+)\]: ", run([*launch.RT, "check", "--only", ""], folder), re.M)
+    codes = re.findall(r"^\S+:\d+:\d+: error\[([\w-]+)\]: ", run([*launch.RT, "check", "--only", ""], folder, end), re.M)
     for path in texts:
         shutil.copyfile(mutant.crate / path, folder / path)
     return None if mutant.error in codes else f"NOT REFUSED BY error[{mutant.error}], but by {', '.join(codes) or 'none'}"
 
 
-def try_part(mutants: list[Mutant], room: str) -> dict[str, str]:
-    """Tries mutants of one crate in a copy of it, one after another, and returns what is wrong with which."""
+def try_part(mutants: list[Mutant], room: str, end: float) -> dict[str, str] | None:
+    """Tries mutants of one crate in a copy of it, one after another, and returns what is wrong with which; nothing where that takes longer
+    than there is time."""
+    try:
+        return try_in_copy(mutants, room, end)
+    except subprocess.TimeoutExpired:
+        return None
+
+
+def try_in_copy(mutants: list[Mutant], room: str, end: float) -> dict[str, str]:
     wrong, name = {}, mutants[0].crate.name
     with tempfile.TemporaryDirectory(dir=room) as top:
         folder = copy_crate(name, Path(top))
@@ -164,12 +179,12 @@ def try_part(mutants: list[Mutant], room: str) -> dict[str, str]:
         for it in mutants:
             if not it.error:
                 shutil.copyfile(it.file, folder / "must-fail" / it.file.name)
-        said = run([*launch.RT, "must-fail", name], Path(top))
+        said = run([*launch.RT, "must-fail", name], Path(top), end)
         told = {edit: answer for of, edit, answer in TOLD.findall(said) if of == name}
         for it in mutants:
             answer = told.get(it.file.stem, f"NOT TOLD: rt must-fail says nothing of it, but {said.strip()[-200:]!r}")
             if it.error:
-                wrong |= {it.file.stem: fault} if (fault := try_to_compile(it, folder)) else {}
+                wrong |= {it.file.stem: fault} if (fault := try_to_compile(it, folder, end)) else {}
             elif not answer.startswith(REFUSED) or BY_A_NAME in answer:
                 wrong[it.file.stem] = f"NOT REFUSED FOR ITSELF: {answer}"
     return wrong
@@ -182,10 +197,13 @@ def lanes(names: list[str]) -> int:
     return max(1, min(rt.processors(), int(launch.SHARE * rt.free() / largest)))
 
 
-def build_libraries(names: Iterable[str]) -> bool:
-    """Has these crates and the libraries below them proved and built, where they aren't."""
+def build_libraries(names: Iterable[str], end: float) -> bool | None:
+    """Has these crates and the libraries below them proved and built, where they aren't; nothing is said where there is no time for it."""
     words = [sys.executable, str(TOP / "launcher" / "launch.py"), "libraries", *names]
-    return subprocess.run(words, stdin=subprocess.DEVNULL).returncode == 0
+    try:
+        return subprocess.run(words, stdin=subprocess.DEVNULL, timeout=left_until(end)).returncode == 0
+    except subprocess.TimeoutExpired:
+        return None
 
 
 def git(top: Path, *words: str) -> str:
@@ -229,29 +247,32 @@ def note_tried(names: Iterable[str], began: datetime) -> None:
     TRIED.write_text(text if is_due else f"{began.isoformat(timespec='seconds')}\n", encoding="utf-8")
 
 
-def try_all(picked: list[str]) -> int:
-    """Tries the mutants of these crates, and returns the status."""
+def try_all(picked: list[str], end: float) -> int:
+    """Tries the mutants of these crates, as far as there is time, and returns the status."""
     refused, faults, began = 0, [], datetime.now(timezone.utc)
-    if not build_libraries(picked):
-        print("check: the libraries below these crates aren't proved, so no mutant was tried")
-        return 1
+    is_built = build_libraries(picked, end)
+    if not is_built:
+        print("left out: all mutants, for want of time; they stay due" if is_built is None else NOT_BUILT)
+        return 0 if is_built is None else 1
     every, side_by_side = {it: mutants_of(TOP / "crates" / it) for it in picked}, lanes(picked)
     most = max(PART, sum(len(found) for found, _ in every.values()) // side_by_side)
     with tempfile.TemporaryDirectory(prefix="mutants-") as room, ThreadPoolExecutor(side_by_side) as pool:
         # (the crates with the most mutants come first)
         begun = {
-            name: [pool.submit(try_part, found[at : at + most], room) for at in range(0, len(found), most)]
+            name: [pool.submit(try_part, found[at : at + most], room, end) for at in range(0, len(found), most)]
             for name, (found, _) in sorted(every.items(), key=lambda it: -len(it[1][0]))
         }
         for name, parts in begun.items():
             found, wrong = every[name]
-            for it in parts:
-                wrong |= it.result()
-            lines = [f"  {name}/{it}: {why}" for it, why in wrong.items()]
-            told = f"{name}: {len(found) - len(wrong)} of {len(found)} mutants refused, after {time.monotonic() - START:.0f} s"
-            print("\n".join([told, *lines]), flush=True)
-            refused, faults = refused + len(found) - len(wrong), faults + lines
-            note_tried([] if wrong else [name], began)
+            results = [it.result() for it in parts]
+            for it in results:
+                wrong |= it or {}
+            lines, number = [f"  {name}/{it}: {why}" for it, why in wrong.items()], len(found) * (None not in results) - len(wrong)
+            told = f"{name}: {number} of {len(found)} mutants refused, after {time.monotonic() - START:.0f} s"
+            left = f"left out: of the {len(found)} mutants of {name} not all are tried, for want of time; they stay due"
+            print("\n".join([left if None in results else told, *lines]), flush=True)
+            refused, faults = refused + max(0, number), faults + lines
+            note_tried([] if wrong or None in results else [name], began)
     # (once more, since the lines of other crates may stand behind them)
     print("\n".join([*faults, f"mutants: {refused} passed, {len(faults)} failed"]))
     return 1 if faults else 0
@@ -261,6 +282,7 @@ def main() -> int:
     words = argparse.ArgumentParser(prog="./check mutants", description=__doc__.split("\n")[0])
     words.add_argument("crates", nargs="*", metavar="CRATE", help="the crates whose mutants are tried; none: those that are due")
     words.add_argument("--all", action="store_true", help="try the mutants of all crates")
+    words.add_argument("--minutes", type=float, default=float("inf"), metavar="M", help="leave out what isn't tried within so many")
     words.add_argument("--apply", action="store_true", help="try none, and say whether each applies")
     given = words.parse_args()
     every = {it: mutants_of(TOP / "crates" / it) for it in crates_of(TOP)}
@@ -275,7 +297,7 @@ def main() -> int:
     picked = picked if given.all or given.crates else due(TOP, TRIED.read_text(encoding="utf-8"), {*numbers})
     few = sum(numbers[it] for it in picked)
     print(f"mutants: {few} of {sum(numbers.values())} are due, in {len(picked)} crates: {' '.join(sorted(picked))}", flush=True)
-    return try_all(sorted(picked)) if picked else 0
+    return try_all(sorted(picked), START + 60 * given.minutes) if picked else 0
 
 
 if __name__ == "__main__":
