@@ -27,7 +27,8 @@ from programs import TOP, WORDS, Ran, closed, commands, example, is_current, is_
 
 # the status of a run that does not end
 HANGS = -1
-SECONDS = 300
+# (a race whose thread isn't made looks for it 20,000,000 times: 5 s, and beside many busy processes minutes)
+SECONDS = 1_800
 # no line of words has so many growths
 MOST = 20_000
 # the number by which the library tells of each thread, and refuses nothing
