@@ -3,7 +3,7 @@
 usage: ./check [--install] [STEP] [..]
 
   ./check              all tests that need no proof: over the proved program if it is current, else over the one compiled without proof
-  ./check all          every proof, from nothing (rt ci); these tests; and the mutants that are due
+  ./check all          every proof, from nothing (rt ci); these tests; and the mutants that are due, but none behind the 160th minute
   ./check proofs       the proofs alone
   ./check mutants [CRATE ..] [--all]
                        the mutants: wrong bodies that the prover must refuse; of crates that are named, of those that are due, or of all
