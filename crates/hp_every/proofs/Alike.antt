@@ -1,5 +1,5 @@
 -- Names of frames don't show in what may be done.
-use Rattle.std.proofs.Common.{◌≡◌, ℕ, refl, sym, ◌∙◌, subst}
+use Rattle.std.proofs.Common.{◌≡◌, ℕ, refl, ap, sym, ◌∙◌, subst}
 use Rattle.std.specs.Prelude.{Option, None, Some, IsSomeAnd}
 use Rattle.std.specs.Option.{option_map}
 use Rattle.hp_base.specs.declared.event.Event.{Event}
@@ -26,6 +26,7 @@ use Rattle.hp_text.specs.declared.script.Script.{Script}
 use Rattle.hp_every.specs.Places.{AreAlike, IsPlaceOf}
 use Rattle.hp_every.specs.Schedules.{AnyTurn, Place, plan_for}
 use Rattle.hp_every.proofs.Futures.{StateWants, place_reached}
+use Rattle.hp_every.specs.Private.{IsPrivate}
 use Rattle.hp_every.proofs.Looks.{LooksAlike, turn_there}
 
 -- whatever wants memory wants it where frames have other names: first of touches
@@ -68,6 +69,27 @@ state_wants s n t h wants =
     subst (λ (m : State). StateWants m t) (sym h.1)
     (some_wants (λ c. Wants s.pool t c) (λ c. Wants (renamed h.0 s).pool t c) (call_renamed h.0.to) (s.calls t) (wants_there s h.0 t) wants)
 
+-- and whatever step is private is private there
+private_there : (s : State) (r : Renaming s.frames) (t : ℕ) (c : Call) → IsPrivate s.pool t c → IsPrivate (renamed r s).pool t (call_renamed r.to c)
+private_there s r t (call.Touch (touch.Look p)) h = ap (option_map r.to) h
+private_there s r t (call.Touch p) h = absurd h
+private_there s r t (call.Map p) h = h
+private_there s r t (call.Alloc (alloc.Head p)) h = h
+private_there s r t (call.Alloc p) h = absurd h
+private_there s r t (call.Punch p) h = h
+private_there s r t (call.Truncate p) h = h
+private_there s r t (call.Unmap p) h = h
+private_there s r t (call.Exit p) h = h
+
+abbrev StateSteps : State → (task : ℕ) → Type 0
+StateSteps s t = IsSomeAnd (s.calls t) (λ c. IsPrivate s.pool t c)
+
+state_private : (s n : State) (t : ℕ) → Alike s n → StateSteps s t → StateSteps n t
+state_private s n t h steps =
+    subst (λ (m : State). StateSteps m t) (sym h.1)
+    (some_wants (λ c. IsPrivate s.pool t c) (λ c. IsPrivate (renamed h.0 s).pool t c) (call_renamed h.0.to) (s.calls t)
+    (private_there s h.0 t) steps)
+
 -- twins look alike
 pub twins_look : (p q : Place) → Twins (as_state p.core) (as_state q.core) → AreAlike p q → LooksAlike p q
 unfolding phase_of life_of calls_of
@@ -77,6 +99,7 @@ twins_look p q twins h = record {
   lives = λ t. same_life (as_state p.core) (as_state q.core) t twins;
   waits = λ t none. waits_there p.core q.core t twins none;
   wants = λ t wants. state_wants (as_state p.core) (as_state q.core) t h.state wants;
+  private = λ t steps. state_private (as_state p.core) (as_state q.core) t h.state steps;
   made = sym h.made;
   denials = sym h.denials;
   kills = sym h.kills;

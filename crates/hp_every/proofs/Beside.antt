@@ -43,10 +43,10 @@ calling s t c = record s { calls = put s.calls t c }
 called_back : (s : State) (t : ℕ) (c : Option Call) → calling (calling s t c) t (s.calls t) ≡ s
 called_back s t c = λ i. record s { calls = put_back s.calls t c i }
 
-at_none : {A : Type 0} (P : Type 0) (Q : A → Type 0) (o : Option A) → o ≡ None → P → MatchOption o P Q
+pub at_none : {A : Type 0} (P : Type 0) (Q : A → Type 0) (o : Option A) → o ≡ None → P → MatchOption o P Q
 at_none {A} P Q o e p = subst (λ (c : Option A). MatchOption c P Q) (sym e) p
 
-at_some : {A : Type 0} (P : Type 0) (Q : A → Type 0) (o : Option A) (x : A) → o ≡ Some x → Q x → MatchOption o P Q
+pub at_some : {A : Type 0} (P : Type 0) (Q : A → Type 0) (o : Option A) (x : A) → o ≡ Some x → Q x → MatchOption o P Q
 at_some {A} P Q o x e q = subst (λ (c : Option A). MatchOption c P Q) (sym e) q
 
 module _ (s n : State) (t : ℕ) (c : Option Call) (o : Outcome) where

@@ -11,6 +11,7 @@ use Rattle.hp_core.specs.Runs.{Row, StepWants}
 use Rattle.hp_core.specs.Waiting.{WaitsFor}
 use Rattle.hp_explore.specs.Schedule.{Plan, CanTurn, in_call, may_begin, next_call, next_needs}
 use Rattle.hp_explore.specs.Explored.{is_done}
+use Rattle.hp_every.specs.Private.{StepIsPrivate}
 use Rattle.hp_every.specs.Schedules.{Place, AnyTurn, Begins, Steps, Denied, Killed, world}
 
 -- all that a turn looks at is the same: whatever may be done in the first place may be done in the second
@@ -19,6 +20,7 @@ pub record LooksAlike (p q : Place) : Type 0 where
   pub lives : (t : ℕ) → life_of q.core t ≡ life_of p.core t
   pub waits : (t : ℕ) → WaitsFor p.core t None → WaitsFor q.core t None
   pub wants : (t : ℕ) → StepWants p.core.parts p.core.task_states t → StepWants q.core.parts q.core.task_states t
+  pub private : (t : ℕ) → StepIsPrivate p.core.parts p.core.task_states t → StepIsPrivate q.core.parts q.core.task_states t
   pub made : q.made ≡ p.made
   pub denials : q.denials ≡ p.denials
   pub kills : q.kills ≡ p.kills

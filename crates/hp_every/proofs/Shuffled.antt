@@ -1,7 +1,8 @@
 -- Moments of several tasks in another order tell the same answers.
-use Rattle.std.proofs.Common.{◌≡◌, ◌∙◌, ℕ, suc, ◌+◌, refl, ap, sym, subst, inl, inr, List, [], ◌∷◌, length}
-use Rattle.std.specs.Prelude.{◌&&◌, Bool, true, false, Option, None, IfSome, if◌then◌else◌}
-use Rattle.hp_base.specs.declared.event.Op.{Op}
+use Rattle.std.proofs.Common.{◌≡◌, ◌≢◌, ◌∙◌, ℕ, suc, ◌+◌, ◌≤◌, ◌<◌, refl, ap, sym, subst, inl, inr, arith, List, [], ◌∷◌, length}
+use Rattle.std.proofs.lemmas.Bool.{cases_lt}
+use Rattle.std.proofs.lemmas.Bool.Decides.{nat_tests}
+use Rattle.std.specs.Prelude.{◌&&◌, Bool, true, false, Option, None, IfSome, if◌then◌else◌, nat_le}
 use Rattle.hp_base.specs.declared.event.Event.{Event}
 use Rattle.hp_base.specs.declared.event.Event.TheVariants.{Begin, Step, Kill, Resize}
 use Rattle.hp_laws.specs.Laws.{IsOf}
@@ -12,11 +13,12 @@ use Rattle.hp_machine.specs.declared.outcome.Outcome.TheVariants.{Begun, Moved, 
 use Rattle.hp_watch.specs.Calls.{asked_word, calls_begun, ended_by, is_begin, last_call}
 use Rattle.hp_watch.specs.Moments.{Moment, Once}
 use Rattle.hp_watch.specs.declared.call_word.CallWord.{CallWord}
+use Rattle.hp_watch.specs.declared.calls.EndedCall.{EndedCall}
 use Rattle.hp_hunt.specs.Conditions.{HasCount, IsAnswered, IsEnd, IsMetAt, IsSoughtEnd, IsStepOf}
 use Rattle.hp_hunt.specs.declared.condition.Comparison.{Comparison}
 use Rattle.hp_hunt.specs.declared.condition.Sought.TheVariants as sought
 use Rattle.hp_hunt.specs.declared.condition.SoughtAnswer.{SoughtAnswer}
-use Rattle.hp_every.specs.Endings.{all_among, answers_in}
+use Rattle.hp_every.specs.Endings.{all_among, among, answers_in}
 use Rattle.hp_every.proofs.Ending.{first_true}
 
 -- an answer that is sought, whatever the counts are
@@ -114,15 +116,7 @@ tell_more ms ns m n like h = record {
   back = λ s none. once_more s ns ms n m none (like_back m n like) (λ t. (sym (h.last t), sym (h.begun t))) (h.back s none);
 }
 
--- ---- a begin and a turn of another task change places
-
--- the task's next call begins
-pub record IsBegin (t : ℕ) (op : Op) (m : Moment) : Type 0 where
-  pub event : m.event ≡ Begin t op
-  pub outcome : m.outcome ≡ Begun
-
-pub begins_like : (t : ℕ) (op : Op) (m n : Moment) → IsBegin t op m → IsBegin t op n → IsLike m n
-begins_like t op m n a b = record { event = a.event ∙ sym b.event; outcome = a.outcome ∙ sym b.outcome }
+-- ---- turns of two tasks change places
 
 -- two choices that are never both made
 either_way : {A : Type 0} (b c : Bool) (x y z : A) → (b ≡ true → c ≡ true → ⊥)
@@ -163,58 +157,133 @@ not_true : (b : Bool) → (b ≡ true → ⊥) → b ≡ false
 not_true true h = absurd (h refl)
 not_true false h = refl
 
-module _ (t : ℕ) (op : Op) (b m : Moment) (ms : List Moment) (begins : IsBegin t op b) (other : IsOf t m.event → ⊥) where
-  -- of each other task the begin changes nothing that is known
-  never_begins : (u : ℕ) → IsStepOf u m.event → is_begin u b.event ≡ false
-  never_begins u step = not_true (is_begin u b.event) (λ h. other (subst (λ (k : ℕ). IsOf k m.event)
-      (one_task u t (Begin t op) (subst (IsOf u) begins.event (begin_of u b.event h)) refl) (step_of u m.event step)))
+le_tells : (a b : ℕ) → nat_le a b ≡ true → a ≤ b
+le_tells a b e = grind (arith, nat_tests)
 
-  same_last : (u : ℕ) → IsStepOf u m.event → last_call u (b ∷ ms) ≡ last_call u ms
+gt_tells : (a b : ℕ) → nat_le a b ≡ false → b < a
+gt_tells a b e = grind (arith, nat_tests)
+
+tells_le : (a b : ℕ) → a ≤ b → nat_le a b ≡ true
+tells_le a b h = grind (arith, nat_tests)
+
+tells_gt : (a b : ℕ) → b < a → nat_le a b ≡ false
+tells_gt a b h = grind (arith, nat_tests)
+
+less : (n m : ℕ) → n ≢ m → m ≤ n → m < n
+less n m h le = elim (cases_lt m n) [
+  | inl lt ↦ lt
+  | inr ge ↦ absurd (h (omega (arith, ge, le)))
+]
+
+-- a call stands behind the first, or before it
+skips : (x z : EndedCall) (es : List EndedCall) → nat_le z.task x.task ≡ true → among x (z ∷ es) ≡ z ∷ among x es
+skips x z es e = ap (λ (b : Bool). if b then z ∷ among x es else x ∷ z ∷ es) e
+
+stops : (x z : EndedCall) (es : List EndedCall) → nat_le z.task x.task ≡ false → among x (z ∷ es) ≡ x ∷ z ∷ es
+stops x z es e = ap (λ (b : Bool). if b then z ∷ among x es else x ∷ z ∷ es) e
+
+-- before these calls two of different tasks are put in either order
+both_before : (x y : EndedCall) (es : List EndedCall) → x.task ≢ y.task → among x es ≡ x ∷ es → among y es ≡ y ∷ es
+    → among x (y ∷ es) ≡ among y (x ∷ es)
+both_before x y es other a b = by_test (nat_le y.task x.task) refl
+  where
+    by_test : (c : Bool) → nat_le y.task x.task ≡ c → among x (y ∷ es) ≡ among y (x ∷ es)
+    by_test true e = skips x y es e ∙ (ap (λ (rest : List EndedCall). y ∷ rest) a
+        ∙ sym (stops y x es (tells_gt x.task y.task (let le = le_tells y.task x.task e in less x.task y.task other le))))
+    by_test false e = stops x y es e ∙ sym (skips y x es (tells_le x.task y.task (let gt = gt_tells y.task x.task e in omega (arith, gt)))
+        ∙ ap (λ (rest : List EndedCall). x ∷ rest) b)
+
+-- and so among others
+among_either : (x y : EndedCall) (es : List EndedCall) → x.task ≢ y.task → among x (among y es) ≡ among y (among x es)
+among_either x y [] other = both_before x y [] other refl refl
+among_either x y (z ∷ es) other = by_tests (nat_le z.task y.task) (nat_le z.task x.task) refl refl (among_either x y es other)
+  where
+    by_tests : (b c : Bool) → nat_le z.task y.task ≡ b → nat_le z.task x.task ≡ c → among x (among y es) ≡ among y (among x es)
+        → among x (among y (z ∷ es)) ≡ among y (among x (z ∷ es))
+    by_tests true true e d rest_of = ap (among x) (skips y z es e) ∙ (skips x z (among y es) d
+        ∙ (ap (λ (rest : List EndedCall). z ∷ rest) rest_of
+        ∙ sym (ap (among y) (skips x z es d) ∙ skips y z (among x es) e)))
+    by_tests true false e d rest_of = ap (among x) (skips y z es e) ∙ (stops x z (among y es) d
+        ∙ sym (ap (among y) (stops x z es d) ∙ (skips y x (z ∷ es) (tells_le x.task y.task
+        (let le = le_tells z.task y.task e in let gt = gt_tells z.task x.task d in omega (arith, le, gt)))
+        ∙ ap (λ (rest : List EndedCall). x ∷ rest) (skips y z es e))))
+    by_tests false true e d rest_of = ap (among x) (stops y z es e) ∙ (skips x y (z ∷ es) (tells_le y.task x.task
+        (let gt = gt_tells z.task y.task e in let le = le_tells z.task x.task d in omega (arith, gt, le)))
+        ∙ (ap (λ (rest : List EndedCall). y ∷ rest) (skips x z es d)
+        ∙ sym (ap (among y) (skips x z es d) ∙ stops y z (among x es) e)))
+    by_tests false false e d rest_of = ap (among x) (stops y z es e)
+        ∙ (both_before x y (z ∷ es) other (stops x z es d) (stops y z es e) ∙ sym (ap (among y) (stops x z es d)))
+
+-- an event ends no call, or one of the task that it is a step of
+data Ends (ms : List Moment) (e : Event) (o : Outcome) : Type 0 where
+  NoCall : ended_by ms e o ≡ [] → Ends ms e o
+  OneCall : (x : EndedCall) → ended_by ms e o ≡ x ∷ [] → IsOf x.task e → Ends ms e o
+
+ends_few : (ms : List Moment) (e : Event) (o : Outcome) → Ends ms e o
+ends_few ms (Begin t op) o = NoCall refl
+ends_few ms (Step t grant) Begun = NoCall refl
+ends_few ms (Step t grant) (Moved p) = NoCall refl
+ends_few ms (Step t grant) (Blocked h) = NoCall refl
+ends_few ms (Step t grant) (Ended a) = OneCall (record { task = t; call = last_call t ms; answer = a }) refl refl
+ends_few ms (Step t grant) Marked = NoCall refl
+ends_few ms (Step t grant) (Resized f) = NoCall refl
+ends_few ms (Step t grant) (Refused why) = NoCall refl
+ends_few ms (Kill t) o = NoCall refl
+ends_few ms (Resize f) o = NoCall refl
+
+-- so what two events of different tasks end is put among others in either order
+all_either : (ms ns : List Moment) (e d : Event) (o u : Outcome) (es : List EndedCall) → ((t : ℕ) → IsOf t e → IsOf t d → ⊥)
+    → all_among (ended_by ms e o) (all_among (ended_by ns d u) es) ≡ all_among (ended_by ns d u) (all_among (ended_by ms e o) es)
+all_either ms ns e d o u es other = either (ends_few ms e o) (ends_few ns d u)
+  where
+    either : Ends ms e o → Ends ns d u
+        → all_among (ended_by ms e o) (all_among (ended_by ns d u) es) ≡ all_among (ended_by ns d u) (all_among (ended_by ms e o) es)
+    either (NoCall a) b = (λ i. all_among (a i) (all_among (ended_by ns d u) es)) ∙ (λ i. all_among (ended_by ns d u) (all_among (sym a i) es))
+    either (OneCall x a of) (NoCall b) =
+        (λ i. all_among (ended_by ms e o) (all_among (b i) es)) ∙ (λ i. all_among (sym b i) (all_among (ended_by ms e o) es))
+    either (OneCall x a of) (OneCall y b on) =
+        (λ i. all_among (a i) (all_among (b i) es))
+        ∙ (among_either x y es (λ same. other y.task (subst (λ (t : ℕ). IsOf t e) same of) on)
+        ∙ (λ i. all_among (sym b i) (all_among (sym a i) es)))
+
+-- what a moment of another task leaves as it was
+module _ (m b : Moment) (ms : List Moment) (other : (t : ℕ) → IsOf t m.event → IsOf t b.event → ⊥) where
+  never_begins : (u : ℕ) → IsStepOf u m.event → is_begin u b.event ≡ false
+  never_begins u step = not_true (is_begin u b.event) (λ h. other u (step_of u m.event step) (begin_of u b.event h))
+
+  pub same_last : (u : ℕ) → IsStepOf u m.event → last_call u (b ∷ ms) ≡ last_call u ms
   same_last u step = ap (λ (x : Bool). if x && is_begun b.outcome then asked_word b.event else last_call u ms) (never_begins u step)
 
-  same_begun : (u : ℕ) → IsStepOf u m.event → calls_begun u (b ∷ ms) ≡ calls_begun u ms
+  pub same_begun : (u : ℕ) → IsStepOf u m.event → calls_begun u (b ∷ ms) ≡ calls_begun u ms
   same_begun u step =
       ap (λ (x : Bool). if x && is_begun b.outcome then calls_begun u ms + 1 else calls_begun u ms) (never_begins u step)
 
-  -- a begin ends no call
-  no_end : ended_by ms b.event b.outcome ≡ []
-  no_end = ap (λ (e : Event). ended_by ms e b.outcome) begins.event
+-- an answer that comes in one order comes in the other
+comes_too : (m b : Moment) (ms : List Moment) → ((t : ℕ) → IsOf t m.event → IsOf t b.event → ⊥) → (s : SoughtAnswer) → s.counted ≡ None
+    → Comes s (m ∷ b ∷ ms) → Comes s (b ∷ m ∷ ms)
+unfolding Once
+comes_too m b ms other s none (inl here) =
+    inr (inl (answered_too s (b ∷ ms) ms m m none (record { event = refl; outcome = refl })
+    (λ u step. (same_last m b ms other u step, same_begun m b ms other u step)) here))
+comes_too m b ms other s none (inr (inl here)) =
+    inl (answered_too s ms (m ∷ ms) b b none (record { event = refl; outcome = refl })
+    (λ u step. (sym (same_last b m ms (λ t x y. other t y x) u step), sym (same_begun b m ms (λ t x y. other t y x) u step))) here)
+comes_too m b ms other s none (inr (inr before)) = inr (inr before)
 
-  no_end_on : (ns : List Moment) → ended_by ns b.event b.outcome ≡ []
-  no_end_on ns = ap (λ (e : Event). ended_by ns e b.outcome) begins.event
+pub change_places : (m b : Moment) (ms : List Moment) → ((t : ℕ) → IsOf t m.event → IsOf t b.event → ⊥) → TellSame (m ∷ b ∷ ms) (b ∷ m ∷ ms)
+change_places m b ms other = record {
+  long = refl;
+  last = λ u. either_way (is_begin u m.event && is_begun m.outcome) (is_begin u b.event && is_begun b.outcome) (asked_word m.event)
+      (asked_word b.event) (last_call u ms) (λ x y. other u (begin_of u m.event (first_true _ _ x)) (begin_of u b.event (first_true _ _ y)));
+  begun = λ u. either_count (is_begin u m.event && is_begun m.outcome) (is_begin u b.event && is_begun b.outcome) (calls_begun u ms);
+  answers = (λ i. all_among (ended_like (b ∷ ms) ms m.event m.outcome (same_last m b ms other) i) (all_among (ended_by ms b.event b.outcome) (answers_in ms)))
+      ∙ (all_either ms ms m.event b.event m.outcome b.outcome (answers_in ms) other
+      ∙ (λ i. all_among (ended_like ms (m ∷ ms) b.event b.outcome (λ u step. sym (same_last b m ms (λ t x y. other t y x) u step)) i)
+      (all_among (ended_by ms m.event m.outcome) (answers_in ms))));
+  on = comes_too m b ms other;
+  back = comes_too b m ms (λ t x y. other t y x);
+}
 
-  no_answer : (s : SoughtAnswer) (ns : List Moment) → IsAnswered s ns b → ⊥
-  no_answer s ns is = subst (IsStepOf is.task) begins.event is.step
-
-  on : (s : SoughtAnswer) → s.counted ≡ None → Comes s (m ∷ b ∷ ms) → Comes s (b ∷ m ∷ ms)
-  unfolding Once
-  on s none (inl here) =
-      inr (inl (answered_too s (b ∷ ms) ms m m none (record { event = refl; outcome = refl })
-      (λ u step. (same_last u step, same_begun u step)) here))
-  on s none (inr (inl here)) = absurd (no_answer s ms here)
-  on s none (inr (inr before)) = inr (inr before)
-
-  back : (s : SoughtAnswer) → s.counted ≡ None → Comes s (b ∷ m ∷ ms) → Comes s (m ∷ b ∷ ms)
-  unfolding Once
-  back s none (inl here) = absurd (no_answer s (m ∷ ms) here)
-  back s none (inr (inl here)) =
-      inl (answered_too s ms (b ∷ ms) m m none (record { event = refl; outcome = refl })
-      (λ u step. (sym (same_last u step), sym (same_begun u step))) here)
-  back s none (inr (inr before)) = inr (inr before)
-
-  never_both : (u : ℕ) → (is_begin u m.event && is_begun m.outcome) ≡ true → (is_begin u b.event && is_begun b.outcome) ≡ true → ⊥
-  never_both u x y = other (subst (λ (k : ℕ). IsOf k m.event)
-      (one_task u t (Begin t op) (subst (IsOf u) begins.event (begin_of u b.event (first_true _ _ y))) refl)
-      (begin_of u m.event (first_true _ _ x)))
-
-  pub change_places : TellSame (m ∷ b ∷ ms) (b ∷ m ∷ ms)
-  change_places = record {
-    long = refl;
-    last = λ u. either_way (is_begin u m.event && is_begun m.outcome) (is_begin u b.event && is_begun b.outcome) (asked_word m.event)
-        (asked_word b.event) (last_call u ms) (never_both u);
-    begun = λ u. either_count (is_begin u m.event && is_begun m.outcome) (is_begin u b.event && is_begun b.outcome) (calls_begun u ms);
-    answers = (λ i. all_among (ended_like (b ∷ ms) ms m.event m.outcome same_last i) (all_among (no_end i) (answers_in ms)))
-        ∙ (λ i. all_among (sym (no_end_on (m ∷ ms)) i) (all_among (ended_by ms m.event m.outcome) (answers_in ms)));
-    on = on;
-    back = back;
-  }
+-- two events of a task and not of it are never of one
+pub never_both : (t : ℕ) (d e : Event) → IsOf t e → (IsOf t d → ⊥) → (u : ℕ) → IsOf u d → IsOf u e → ⊥
+never_both t d e of off u on there = off (subst (λ (k : ℕ). IsOf k d) (one_task u t e there of) on)

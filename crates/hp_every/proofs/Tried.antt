@@ -15,13 +15,13 @@ use Rattle.hp_hunt.specs.declared.condition.Sought.{Sought}
 use Rattle.hp_hunt.specs.declared.condition.Sought.TheVariants.{Blocked}
 use Rattle.hp_every.specs.declared.turn.Turn.{Turn}
 use Rattle.hp_every.specs.declared.turn.Turn.TheVariants.{Next}
-use Rattle.hp_every.specs.Eager.{AreTried, IsEager, IsKept, IsTried, MayBeEager, MayBegin, Tries}
+use Rattle.hp_every.specs.Eager.{AreTried, IsEager, IsKept, IsTried, MayBeEager, MayBegin, MayGoFirst, MayStepAlone, Tries}
 use Rattle.hp_every.specs.Schedules as schedules
 use Rattle.hp_every.specs.Schedules.{AnyTurn, Ends, Leads, MayTurn, NoScheduleMeets, Place, ScheduleMeets, first_place, plan_for}
 use Rattle.hp_every.specs.Search.{AreAsGood, AreBehind, GoesOn, HasTurns, IsPath, IsRun, PathState, Question}
 use Rattle.hp_every.specs.Turns.{turn_of, turns_of}
 use Rattle.hp_every.proofs.Answers.{Doubly, all_knowing, decided, may_at, meets_as, met_as, no_schedule, path_of, reached_path, turn_count}
-use Rattle.hp_every.proofs.First.{begins_first}
+use Rattle.hp_every.proofs.First.{goes_first}
 use Rattle.hp_every.proofs.Good.{by_path, follows_by, last_turn, onward, same_by_turns}
 use Rattle.hp_every.proofs.Looks.{LooksAlike, can_there}
 use Rattle.hp_every.proofs.Runs.{wanted_too}
@@ -37,11 +37,22 @@ begins_there plan p q t h may = record {
   alive = h.lives t ∙ may.alive;
 }
 
+steps_there : (p q : Place) (t : ℕ) → LooksAlike p q → MayStepAlone p t → MayStepAlone q t
+steps_there p q t h may = record {
+  there = (may.there.0, subst (λ (made : List ℕ). t ≤ length made) (sym h.made) may.there.1);
+  lives = h.lives t ∙ may.lives;
+  private = h.private t may.private;
+}
+
+goes_there : (plan : Plan) (p q : Place) (t : ℕ) → LooksAlike p q → MayGoFirst plan p t → MayGoFirst plan q t
+goes_there plan p q t h (inl may) = inl (begins_there plan p q t h may)
+goes_there plan p q t h (inr may) = inr (steps_there p q t h may)
+
 eager_there : (plan : Plan) (p q : Place) (t : ℕ) → LooksAlike p q → LooksAlike q p → IsEager plan p t → IsEager plan q t
 eager_there plan p q t on back h = record {
   calm = record { denials = on.denials ∙ h.calm.denials; kills = on.kills ∙ h.calm.kills };
-  begins = begins_there plan p q t on h.begins;
-  first = λ u less may. h.first u less (begins_there plan q p u back may);
+  goes = goes_there plan p q t on h.goes;
+  first = λ u less may. h.first u less (goes_there plan q p u back may);
 }
 
 tried_there : (plan : Plan) (p q : Place) (eager : Bool) (x : Turn) → LooksAlike p q → LooksAlike q p → IsTried plan p eager x
@@ -52,9 +63,9 @@ tried_there plan p q true x on back h = λ t is. h t (eager_there plan q p t bac
 -- one task is
 pub one_eager : (plan : Plan) (p : Place) (t u : ℕ) → IsEager plan p t → IsEager plan p u → t ≡ u
 one_eager plan p t u a b = elim (cases_lt t u) [
-  | inl less ↦ absurd (b.first t less a.begins)
+  | inl less ↦ absurd (b.first t less a.goes)
   | inr more ↦ elim (cases_lt u t) [
-    | inl less ↦ absurd (a.first u less b.begins)
+    | inl less ↦ absurd (a.first u less b.goes)
     | inr same ↦ omega (arith, more, same)
   ]
 ]
@@ -267,9 +278,9 @@ follow_more a kept first f n rest_of before p run followed (m ∷ ms) last long 
 
     early : (t : ℕ) → IsEager (plan_for a.script) p t → ⊥
     early t eager =
-        let h = begins_first (plan_for a.script) p t (m ∷ ms) last eager.begins eager.calm leads over in
-        on h.begin h.next h.others h.turn h.core h.leads (let whole = h.long in omega (arith, whole, long))
-        (meets_on a.conditions f ((m ∷ ms) ++ before) (h.others ++ h.begin ∷ before) kept (h.kept f before) meets)
+        let h = goes_first a.script p t (m ∷ ms) last (place_is a f before p run) eager.goes eager.calm leads over in
+        on h.own h.next h.others h.turn h.core h.leads (let whole = h.long in omega (arith, whole, long))
+        (meets_on a.conditions f ((m ∷ ms) ++ before) (h.others ++ h.own ∷ before) kept (h.kept f before) meets)
         (λ u other. h.is ∙ ap (λ (x : ℕ). Next x) (one_eager (plan_for a.script) p t u eager other))
 
     late : ((t : ℕ) × IsEager (plan_for a.script) p t → ⊥) → ⊥

@@ -14,7 +14,7 @@ ghost use Rattle.hp_hunt.specs.declared.condition.Condition.{Condition};
 ghost use Rattle.hp_every.specs.Places.{AreAlike, HasFuture, IsPlaceOf, outcomes_of, place_words};
 ghost use Rattle.hp_every.specs.Scheduled.{IsScheduled, how_many, is_denied, is_kill};
 ghost use Rattle.hp_every.specs.Schedules.{AnyTurn, Ends, IsSchedule, IsShortest, Leads, NoScheduleMeets, Place, plan_for};
-ghost use Rattle.hp_every.specs.Eager.{BeginsFirst, IsCalm, MayBegin};
+ghost use Rattle.hp_every.specs.Eager.{BeginsFirst, IsCalm, MayBegin, MayStepAlone, StepsFirst};
 
 /// The moments of a schedule are those of a run of the machine, from a new core of the script's config on. So whatever holds of every run
 /// holds of every schedule.
@@ -90,4 +90,11 @@ pub fn a_begin_may_come_first()
     ensures { (script : Script) (p last : Place) (task : ℕ) (moments : List Moment)
         → MayBegin (plan_for script) p task → IsCalm p → Leads (plan_for script) p moments last → Ends (plan_for script) last
         → BeginsFirst (plan_for script) p task moments last }
+{}
+
+/// So may a private step of a call: one that looks at what its own task alone changes, and changes nothing but where the call stands.
+pub fn a_private_step_may_come_first()
+    ensures { (script : Script) (p last : Place) (task : ℕ) (moments : List Moment)
+        → IsPlaceOf script p → MayStepAlone p task → IsCalm p → Leads (plan_for script) p moments last → Ends (plan_for script) last
+        → StepsFirst (plan_for script) p task moments last }
 {}

@@ -11,9 +11,10 @@ mod laws;
 mod turn;
 
 pub use laws::{
-    a_begin_may_come_first, a_schedule_is_a_run, a_shortest_schedule_is_a_run,
-    an_explored_run_is_a_schedule, equal_places_have_equal_futures, events_lead_to_one_place,
-    names_of_frames_change_no_turn, what_no_schedule_meets_explored_runs_miss,
+    a_begin_may_come_first, a_private_step_may_come_first, a_schedule_is_a_run,
+    a_shortest_schedule_is_a_run, an_explored_run_is_a_schedule, equal_places_have_equal_futures,
+    events_lead_to_one_place, names_of_frames_change_no_turn,
+    what_no_schedule_meets_explored_runs_miss,
 };
 pub use turn::Turn;
 

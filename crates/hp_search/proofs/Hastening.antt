@@ -8,6 +8,7 @@ use Rattle.hp_every.specs.declared.turn.Turn.TheVariants.{Next}
 use Rattle.hp_every.specs.Eager.{AreTried, IsEager}
 use Rattle.hp_every.specs.Schedules.{MayTurn, Place}
 use Rattle.hp_every.specs.Turns.{AreAllTurns}
+use Rattle.hp_every.proofs.First.{goes_turn}
 use Rattle.hp_every.proofs.Tried.{one_eager}
 
 -- its begin alone
@@ -19,7 +20,7 @@ tried_one plan p t turns h is turn = (
         | inl none ↦ (let low = none.1 in absurd (omega (arith, low)))
         | inr e ↦ e
       ] in (
-        subst (MayTurn plan p) same (h.begins.there, h.begins.can),
+        subst (MayTurn plan p) same (goes_turn plan p t h.calm h.goes),
         λ u other. sym same ∙ ap (λ (x : ℕ). Next x) (one_eager plan p t u h other),
       )),
   λ both. subst (λ (xs : List Turn). Contains xs turn) (sym is)

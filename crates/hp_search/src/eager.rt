@@ -5,7 +5,7 @@ ghost use Rattle.hp_every.specs.Eager.{IsKept, MayBeEager};
 use crate::path::has_final;
 use hp_hunt::{Condition, Sought};
 
-/// Whether what is sought is found as well where a task begins its call sooner.
+/// Whether what is sought is found as well where a task begins its call or makes a private step sooner.
 fn is_kept(sought: &Sought) -> bool
     ensures { IsTrue result ↔ IsKept sought.now }
 {

@@ -18,6 +18,7 @@ mod growth;
 mod key;
 mod path;
 mod position;
+mod private;
 mod query;
 mod reachability;
 

@@ -4,7 +4,7 @@ ghost use Rattle.hp_core.specs.Runs.{IsOpening};
 ghost use Rattle.hp_explore.specs.Explored.{is_done};
 ghost use Rattle.hp_hunt.specs.Watching.{AllKnow, known_of};
 ghost use Rattle.hp_layers.specs.Named.{AreApart};
-ghost use Rattle.hp_every.specs.Eager.{AreTried, IsEager, MayBegin};
+ghost use Rattle.hp_every.specs.Eager.{AreTried, IsEager, MayBegin, MayGoFirst, MayStepAlone};
 ghost use Rattle.hp_every.specs.Schedules.{IsTask, MayTurn, first_place, world};
 ghost use Rattle.hp_every.specs.declared.turn.Turn.{Turn};
 ghost use Rattle.hp_every.specs.declared.turn.Turn.TheVariants as turn;
@@ -13,6 +13,7 @@ ghost use Rattle.hp_search.specs.Searching.{IsMade, place_of};
 
 use crate::answers::Answers;
 use crate::growth::step_wants;
+use crate::private::step_is_private;
 use crate::query::Query;
 use hp_base::{Answer, Event, Op, Task};
 use hp_core::Outcome;
@@ -187,7 +188,23 @@ impl Position {
         !self.walk.in_call(task) && self.walk.is_alive(task) && self.may_go_on(plan, task)
     }
 
-    /// The task that is eager to begin, if one is.
+    /// Whether the task is alive, and the next step of its call is private.
+    fn may_step_alone(&self, task: u32) -> bool
+        requires { IsTask (place_of self.now) task }
+        ensures { IsTrue result ↔ MayStepAlone (place_of self.now) task }
+    {
+        self.walk.is_alive(task) && step_is_private(self.walk.core(), Task::new(task))
+    }
+
+    /// Whether the task may do one of both.
+    fn may_go_first(&self, plan: &Plan, task: u32) -> bool
+        requires { IsTask (place_of self.now) task }
+        ensures { IsTrue result ↔ MayGoFirst plan.now (place_of self.now) task }
+    {
+        self.may_begin(plan, task) || self.may_step_alone(task)
+    }
+
+    /// The task that is eager to go first, if one is.
     fn eager_task(&self, plan: &Plan) -> Option<u8>
         ensures some { IfSome result (λ task. IsEager plan.now (place_of self.now) task) }
         ensures none { result ≡ None → (task : ℕ) → ¬ IsEager plan.now (place_of self.now) task }
@@ -196,7 +213,7 @@ impl Position {
             return None;
         }
         for place in 0..self.walk.made().len() {
-            if self.may_begin(plan, place as u32 + 1) {
+            if self.may_go_first(plan, place as u32 + 1) {
                 return Some(place as u8 + 1);
             }
         }

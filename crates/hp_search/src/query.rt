@@ -13,6 +13,6 @@ pub(crate) struct Query<'a> {
     /// So many steps may be denied, and so many tasks killed.
     pub(crate) denials: u32,
     pub(crate) kills: u32,
-    /// Whether no turn is tried beside that of a task that is eager to begin.
+    /// Whether no turn is tried beside that of a task that is eager to go first.
     pub(crate) eager: bool,
 }
