@@ -11,8 +11,8 @@ use Rattle.std.proofs.lemmas.List.Sums.{sum_by-append, sum_by-cons}
 use Rattle.hp_layers.specs.Ended.{EndsAlike}
 use Rattle.hp_layers.specs.Layers.{AreAllAfter, AreValid, IsLayer, IsReached}
 use Rattle.hp_layers.specs.Named.{AddsEach, AddsWays, AreApart, AreEach, AreMoves, AreNamed, AreTold, EndsAt, GoOn, Grows}
-use Rattle.hp_layers.specs.Named.{IsIndexed, IsSeat, KeepsPlaces, LeadsBy, TakesWays}
-use Rattle.hp_layers.specs.Weighed.{IsAsMany, most, weigh}
+use Rattle.hp_layers.specs.Named.{IsIndexed, IsSeat, KeepsPlaces, KeyMoves, LeadsBy, MoveSo, TakesWays}
+use Rattle.hp_layers.specs.Weighed.{IsAsMany, most}
 use Rattle.hp_layers.specs.declared.counting.RunCounts.{RunCounts}
 use Rattle.hp_layers.proofs.Covering.{covered_by, nothing_in}
 use Rattle.hp_layers.proofs.Indexing.{kept_place, placed, some_one}
@@ -111,13 +111,6 @@ adds_rest_all {S} key_of after states left more old new r none = record {
 
 -- ---- a layer's turns
 
--- the turns from a state by their names, each with the place of the key of the state that it leads to
-pub record KeyMoves {S L K : Type 0} (step : S → L → S → Type 0) (key_of : S → K) (place : K → Option ℕ) (s : S) (moves : List (L × ℕ))
-    : Type 0 where
-  pub apart : AreApart (map name_of moves)
-  pub each : (name : L) (j : ℕ) → Contains moves (name, j) → (t : S) × step s name t × (place (key_of t) ≡ Some j)
-  pub all : (name : L) (t : S) → step s name t → (j : ℕ) × Contains moves (name, j)
-
 abbrev zipped : {L : Type 0} → List L → List ℕ → List (L × ℕ)
 zipped [] js = []
 zipped (name ∷ names) [] = []
@@ -175,13 +168,6 @@ moves_of step key_of place s next e js at =
       each = zipped_each (step s) (λ t j. place (key_of t) ≡ Some j) e.names next js e.each at;
       all = λ name t k. zipped_all e.names js long name (e.all name t k);
     }
-
--- the turns from the states so far
-pub record MoveSo {S L K : Type 0} (step : S → L → S → Type 0) (key_of : S → K) (place : K → Option ℕ) (states : List S) (ways new : List ℕ)
-    : Type 0 where
-  pub moves : List (List (L × ℕ))
-  pub each : AllZip (KeyMoves step key_of place) states moves
-  pub many : (j : ℕ) → IsAsMany (get_or new j 0) (weigh ways moves (λ ms. count_by (is_at j) ms))
 
 pub no_moves : {S L K : Type 0} (step : S → L → S → Type 0) (key_of : S → K) (place : K → Option ℕ) (new : List ℕ) → new ≡ []
     → MoveSo step key_of place [] [] new

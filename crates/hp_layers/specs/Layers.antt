@@ -1,6 +1,7 @@
 -- Layers of states: those that are reached in exactly so many turns, up to states that are as good.
 use Rattle.std.specs.Prelude.{◌≡◌, ◌<◌, ◌≤◌, ◌+◌, ◌++◌, ◌∷◌, ◌⊎◌, [], ℕ, zero, suc, Bool, true, List, Contains, length, slice_index_or, Option, Some}
 use Rattle.std.specs.List.{IsDistinct, list_any}
+use Rattle.std.specs.Global.{Vec}
 use Rattle.hp_layers.specs.declared.limits.Limits.{Limits}
 use Rattle.hp_layers.specs.declared.verdict.Verdict.{Verdict}
 use Rattle.hp_layers.specs.declared.verdict.Verdict.TheVariants.{Never, Met, Cut}
@@ -95,6 +96,17 @@ pub record LacksBytes {S K : Type 0} (eq : K → K → Bool) (key_of : S → K) 
   pub many : IsOver (bytes_in bytes_of others) room
   pub each : (t : S) → Contains others t → (s : S) × Contains states s × turn s t
 
+-- What was gathered behind some states so far: what comes next of them, states of the system, each with a key of its own. Their bytes are
+-- counted, and there is room for them.
+pub record IsGathered {S K : Type 0} (eq : K → K → Bool) (key_of : S → K) (valid : S → Type 0) (turn alike : S → S → Type 0) (bytes_of : S → ℕ)
+    (room : ℕ) (space : Option ℕ) (states : List S) (has : K → Bool) (keys : List K) (next : List S) (bytes : ℕ) : Type 0 where
+  pub stand : KeysStand eq key_of has next
+  pub next_of : AreNext turn alike states next
+  pub are_valid : AreValid valid next
+  pub counted : AreCounted eq keys next
+  pub fits : Fits (length next) bytes room space
+  pub are_bytes : AreBytes bytes_of next bytes
+
 -- these are reached in so many turns, and cover all that are
 pub record IsLayer {S : Type 0} (turn alike : S → S → Type 0) (first : S) (turns : ℕ) (layer : List S) : Type 0 where
   pub reached : (t : S) → Contains layer t → IsReached turn first turns t
@@ -103,6 +115,10 @@ pub record IsLayer {S : Type 0} (turn alike : S → S → Type 0) (first : S) (t
 -- it holds of what stands at that place, whatever is read where nothing does
 abbrev pub HoldsAt : {S : Type 0} → (P : S → Type 0) → List S → (place : ℕ) → Type 0
 HoldsAt {S} P states place = (d : S) → P (slice_index_or states place d)
+
+-- they come after what stands that many places behind the begin of a part
+abbrev pub IsBehind : {S : Type 0} → (turn alike : S → S → Type 0) → (layer : List S) → (begin place : ℕ) → (after : Vec S) → Type 0
+IsBehind turn alike layer begin place after = HoldsAt (λ s. AreAllAfter turn alike s after.items) layer (begin + place)
 
 -- the state at that place meets it
 pub record MeetsAt {S : Type 0} (meets : S → Type 0) (states : List S) (place : ℕ) : Type 0 where

@@ -2,7 +2,9 @@
 use Rattle.std.specs.Prelude.{◌≡◌, ◌<◌, ◌≤◌, ◌+◌, ◌*◌, ◌==◌, ◌++◌, ◌∷◌, ◌⊎◌, [], ℕ, zero, suc, Bool, true, if◌then◌else◌, List, Contains}
 use Rattle.std.specs.Prelude.{Option, None, Some, map, length, slice_index_or}
 use Rattle.std.specs.List.{AllZip, count_by}
+use Rattle.std.specs.Global.{Vec}
 use Rattle.hp_layers.specs.declared.counting.RunCounts.{RunCounts}
+use Rattle.hp_layers.specs.Layers.{AreBytes, AreNext, AreValid, Fits, HoldsAt}
 use Rattle.hp_layers.specs.declared.ending.EndingTable.{EndingTable}
 use Rattle.hp_layers.specs.declared.ending.EndingTable.TheVariants.{Whole, Cut}
 use Rattle.hp_layers.specs.Weighed.{IsAsMany, weigh}
@@ -64,6 +66,37 @@ pub record AddsEach {S K : Type 0} (key_of : S → K) (after : K → Option ℕ)
   pub places : List ℕ
   pub at : AllZip (λ s j. after (key_of s) ≡ Some j) states places
   pub ways : (j : ℕ) → IsAsMany (slice_index_or new j 0) (slice_index_or old j 0 + more * count_by (λ k. k == j) places)
+
+-- the turns from a state by their names, each with the place of the key of the state that it leads to
+pub record KeyMoves {S L K : Type 0} (step : S → L → S → Type 0) (key_of : S → K) (place : K → Option ℕ) (s : S) (moves : List (L × ℕ))
+    : Type 0 where
+  pub apart : AreApart (map (λ m. m.0) moves)
+  pub each : (name : L) (j : ℕ) → Contains moves (name, j) → (t : S) × step s name t × (place (key_of t) ≡ Some j)
+  pub all : (name : L) (t : S) → step s name t → (j : ℕ) × Contains moves (name, j)
+
+-- the turns from the states so far, which are there in so many ways, lead in so many ways to each place
+pub record MoveSo {S L K : Type 0} (step : S → L → S → Type 0) (key_of : S → K) (place : K → Option ℕ) (states : List S) (ways new : List ℕ)
+    : Type 0 where
+  pub moves : List (List (L × ℕ))
+  pub each : AllZip (KeyMoves step key_of place) states moves
+  pub many : (j : ℕ) → IsAsMany (slice_index_or new j 0) (weigh ways moves (λ ms. count_by (λ m. m.1 == j) ms))
+
+-- they come, one for each turn, after what stands that many places behind the begin of a part
+abbrev pub IsEachBehind : {S L : Type 0} → (step : S → L → S → Type 0) → (layer : List S) → (begin place : ℕ) → (after : Vec S) → Type 0
+IsEachBehind step layer begin place after = HoldsAt (λ s. AreEach step s after.items) layer (begin + place)
+
+-- What was gathered behind some states so far, in whose ways: what comes next of them, states of the system at the places of their keys, and
+-- in how many ways their turns lead there. Their bytes are counted, and there is room for them.
+pub record IsTallied {S L K : Type 0} (step : S → L → S → Type 0) (eq : K → K → Bool) (key_of : S → K) (valid : S → Type 0)
+    (turn alike : S → S → Type 0) (bytes_of : S → ℕ) (room : ℕ) (space : Option ℕ) (states : List S) (ways : List ℕ) (place : K → Option ℕ)
+    (next : RunCounts S) (bytes : ℕ) : Type 0 where
+  pub are_valid : AreValid valid next.states.items
+  pub long : length next.ways.items ≡ length next.states.items
+  pub indexed : IsIndexed eq (λ s k. key_of s ≡ k) place next.states.items
+  pub next_of : AreNext turn alike states next.states.items
+  pub moves : MoveSo step key_of place states ways next.ways.items
+  pub fits : Fits (length next.states.items) bytes room space
+  pub are_bytes : AreBytes bytes_of next.states.items bytes
 
 -- the turns from a state by their names, each with the place of a state that is as good as the one to which it leads
 pub record AreMoves {S L : Type 0} (step : S → L → S → Type 0) (alike : S → S → Type 0) (next : List S) (s : S) (moves : List (L × ℕ))

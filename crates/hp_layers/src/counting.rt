@@ -1,18 +1,19 @@
 //! In how many ways runs lead to states, layer by layer.
-ghost use Rattle.std.specs.Prelude.{◌≡◌, ◌+◌, ◌⊎◌, [], IfNone, IfOk, IfSome, List, OnOk, length, min};
+ghost use Rattle.std.specs.Prelude.{◌≡◌, ◌+◌, ◌≤◌, ◌⊎◌, [], IfNone, IfOk, IfSome, List, OnOk, false, length, min, take, true};
+ghost use Rattle.hp_workers.specs.Claims.{AreOwn};
 ghost use Rattle.std.specs.HashMap.{get};
 ghost use Rattle.hp_layers.specs.Layers.{AddsAll, AreBytes, AreKeysOf, AreNext, AreValid, Fits, LacksBytes, LacksRoom};
-ghost use Rattle.hp_layers.specs.Named.{AddsEach, AddsWays, GoOn, IsIndexed, KeepsPlaces};
+ghost use Rattle.hp_layers.specs.Named.{AddsEach, AddsWays, GoOn, IsTallied, IsEachBehind, IsIndexed, KeepsPlaces};
 ghost use Rattle.hp_layers.specs.Weighed.{AreWithin};
 
 use crate::ending::Ends;
-use crate::layer::{Room, exceeds};
-use crate::parts::{EachAfter, part_len, part_of};
-use hp_workers::next_made;
+use crate::layer::{Made, Room, exceeds};
+use crate::parts::{EachAfter, part_end};
+use hp_workers::{made_ahead, take_or_make};
 use std::alloc::{AllocError, Global};
 use std::collections::HashMap;
 use std::hash::Hash;
-use std::thread::Threads;
+use std::thread::{Threads, join_mut};
 
 /// States, and for each in how many ways runs lead there. The largest number counts as that many or more.
 #[derive(Debug, Drop)]
@@ -113,6 +114,149 @@ fn add_each<M: Ends>(
     Ok(())
 }
 
+/// What workers make of the part that begins here, if it is worth it.
+fn ahead_of<M: Ends + Sync>(
+    rt: &(impl Threads + Sync),
+    alloc: Global,
+    system: &M,
+    layer: &[M::State],
+    begin: usize,
+) -> Result<Made<M::State>, AllocError>
+    requires layer { AreValid (M.valid system.now) layer.now }
+    requires within { begin ≤ length layer.now }
+    ensures own { IfOk result (λ made. AreOwn (IsEachBehind (M.step system.now) layer.now begin) made.items) }
+{
+    let part = EachAfter {
+        system,
+        layer,
+        begin,
+    };
+    let places = part_end(begin, layer.len()) - begin;
+    made_ahead(rt, alloc, &part, places as u32)
+}
+
+/// Adds the states behind those of a part, of which workers made some, each in the ways of the state before it. Tells
+/// whether there was room for them.
+fn add_part<M: Ends + Sync>(
+    alloc: Global,
+    system: &M,
+    layer: &[M::State],
+    ways: &[u128],
+    begin: usize,
+    end: usize,
+    made: &mut Made<M::State>,
+    room: Room,
+    seats: &mut HashMap<M::Key, usize>,
+    next: &mut CountedLayer<M::State>,
+) -> Result<bool, AllocError>
+    requires layer { AreValid (M.valid system.now) layer.now }
+    requires order { begin ≤ end }
+    requires within { end ≤ length layer.now }
+    requires few { end ≤ begin + 1024 }
+    requires ways { length ways.now ≡ length layer.now }
+    requires own { AreOwn (IsEachBehind (M.step system.now) layer.now begin) made.old.items }
+    requires tallied { IsTallied (M.step system.now) M.Key.eq (M.key_of system.now) (M.valid system.now) (M.turn system.now) (M.alike system.now)
+        (M.bytes_of system.now) room.states room.bytes
+        (take begin layer.now) (take begin ways.now) (get M.Key.eq seats.old) next.old.counts next.old.bytes }
+    ensures tallied { IfOk result (λ fits. fits ≡ true
+        → IsTallied (M.step system.now) M.Key.eq (M.key_of system.now) (M.valid system.now) (M.turn system.now) (M.alike system.now)
+        (M.bytes_of system.now) room.states room.bytes
+        (take end layer.now) (take end ways.now) (get M.Key.eq seats.new) next.new.counts next.new.bytes) }
+    ensures none { IfOk result (λ fits. fits ≡ false
+        → LacksRoom M.Key.eq (M.key_of system.now) (M.turn system.now) layer.now room.states
+        ⊎ LacksBytes M.Key.eq (M.key_of system.now) (M.turn system.now) (M.bytes_of system.now) layer.now room.bytes) }
+{
+    let part = EachAfter {
+        system,
+        layer,
+        begin,
+    };
+    for place in 0..end - begin {
+        let after = take_or_make(alloc, &part, made, place as u32)?;
+        let more = ways[begin + place];
+        add_each(alloc, system, seats, next, after, more)?;
+        let many = next.counts.states.len();
+        if exceeds(many, next.bytes, room) {
+            return Ok(false);
+        }
+    }
+    Ok(true)
+}
+
+/// Adds the states behind those of a part, and has workers go on from the part behind it meanwhile. Gives what they made, and tells whether
+/// there was room.
+fn add_beside<M: Ends + Sync>(
+    rt: &(impl Threads + Sync),
+    alloc: Global,
+    system: &M,
+    layer: &[M::State],
+    ways: &[u128],
+    begin: usize,
+    end: usize,
+    mut made: Made<M::State>,
+    room: Room,
+    seats: &mut HashMap<M::Key, usize>,
+    next: &mut CountedLayer<M::State>,
+) -> Result<(Made<M::State>, bool), AllocError>
+    requires layer { AreValid (M.valid system.now) layer.now }
+    requires order { begin ≤ end }
+    requires within { end ≤ length layer.now }
+    requires few { end ≤ begin + 1024 }
+    requires ways { length ways.now ≡ length layer.now }
+    requires own { AreOwn (IsEachBehind (M.step system.now) layer.now begin) made.items }
+    requires tallied { IsTallied (M.step system.now) M.Key.eq (M.key_of system.now) (M.valid system.now) (M.turn system.now) (M.alike system.now)
+        (M.bytes_of system.now) room.states room.bytes
+        (take begin layer.now) (take begin ways.now) (get M.Key.eq seats.old) next.old.counts next.old.bytes }
+    ensures own { IfOk result (λ done. AreOwn (IsEachBehind (M.step system.now) layer.now end) done.0.items) }
+    ensures tallied { IfOk result (λ done. done.1 ≡ true
+        → IsTallied (M.step system.now) M.Key.eq (M.key_of system.now) (M.valid system.now) (M.turn system.now) (M.alike system.now)
+        (M.bytes_of system.now) room.states room.bytes
+        (take end layer.now) (take end ways.now) (get M.Key.eq seats.new) next.new.counts next.new.bytes) }
+    ensures none { IfOk result (λ done. done.1 ≡ false
+        → LacksRoom M.Key.eq (M.key_of system.now) (M.turn system.now) layer.now room.states
+        ⊎ LacksBytes M.Key.eq (M.key_of system.now) (M.turn system.now) (M.bytes_of system.now) layer.now room.bytes) }
+{
+    if end == layer.len() {
+        let fits = add_part(
+            alloc, system, layer, ways, begin, end, &mut made, room, seats, next,
+        )?;
+        return Ok((Vec::new(alloc), fits));
+    }
+    let (ahead, fits) = join_mut(
+        rt,
+        &mut || -> Result<Made<M::State>, AllocError>
+            requires layer { AreValid (M.valid system.now) layer.now }
+            requires within { end ≤ length layer.now }
+        { ahead_of(rt, alloc, system, layer, end) },
+        &mut || -> Result<bool, AllocError>
+            requires layer { AreValid (M.valid system.now) layer.now }
+            requires order { begin ≤ end }
+            requires within { end ≤ length layer.now }
+            requires few { end ≤ begin + 1024 }
+            requires ways { length ways.now ≡ length layer.now }
+            requires own { AreOwn (IsEachBehind (M.step system.now) layer.now begin) made.items }
+            requires tallied { IsTallied (M.step system.now) M.Key.eq (M.key_of system.now) (M.valid system.now) (M.turn system.now)
+                (M.alike system.now) (M.bytes_of system.now) room.states room.bytes (take begin layer.now) (take begin ways.now)
+                (get M.Key.eq seats.now) next.now.counts next.now.bytes }
+            ensures tallied { IfOk result (λ fits. fits ≡ true
+                → IsTallied (M.step system.entry.now) M.Key.eq (M.key_of system.entry.now) (M.valid system.entry.now) (M.turn system.entry.now)
+                (M.alike system.entry.now) (M.bytes_of system.entry.now) room.states room.bytes (take end layer.entry.now)
+                (take end ways.entry.now) (get M.Key.eq seats.exit.now) next.exit.now.counts next.exit.now.bytes) }
+            ensures none { IfOk result (λ fits. fits ≡ false
+                → LacksRoom M.Key.eq (M.key_of system.entry.now) (M.turn system.entry.now) layer.entry.now room.states
+                ⊎ LacksBytes M.Key.eq (M.key_of system.entry.now) (M.turn system.entry.now) (M.bytes_of system.entry.now) layer.entry.now
+                room.bytes) }
+        {
+            add_part(
+                alloc, system, layer, ways, begin, end, &mut made, room, seats, next,
+            )
+        },
+    );
+    let ahead = ahead?;
+    let fits = fits?;
+    Ok((ahead, fits))
+}
+
 /// The states behind a layer, with their ways, unless there isn't room for them.
 pub(crate) fn next_counts<M: Ends + Sync>(
     rt: &(impl Threads + Sync),
@@ -137,29 +281,25 @@ pub(crate) fn next_counts<M: Ends + Sync>(
         (LacksRoom M.Key.eq (M.key_of system.now) (M.turn system.now) layer.now.states.items room.states
         ⊎ LacksBytes M.Key.eq (M.key_of system.now) (M.turn system.now) (M.bytes_of system.now) layer.now.states.items room.bytes)) }
 {
-    let mut places = HashMap::new(alloc);
+    let mut seats = HashMap::new(alloc);
     let mut next = CountedLayer {
         counts: no_counts(alloc),
         bytes: 0,
     };
+    let states = layer.states.as_slice();
+    let mut made = ahead_of(rt, alloc, system, states, 0)?;
     let mut begin = 0;
-    let mut ahead = Vec::new(alloc);
-    for place in 0..layer.states.len() {
-        begin = part_of(begin, place);
-        let part = EachAfter {
-            system,
-            layer: &layer.states,
-            begin,
-        };
-        let states = part_len(begin, layer.states.len());
-        let at = (place - begin) as u32;
-        let after = next_made(rt, alloc, &part, states, &mut ahead, at)?;
-        let more = layer.ways[place];
-        add_each(alloc, system, &mut places, &mut next, after, more)?;
-        let many = next.counts.states.len();
-        if exceeds(many, next.bytes, room) {
+    while begin < states.len() {
+        let end = part_end(begin, states.len());
+        let ways = layer.ways.as_slice();
+        let (ahead, fits) = add_beside(
+            rt, alloc, system, states, ways, begin, end, made, room, &mut seats, &mut next,
+        )?;
+        if !fits {
             return Ok(None);
         }
+        made = ahead;
+        begin = end;
     }
     Ok(Some(next))
 }

@@ -1,17 +1,18 @@
 //! One layer from the one before it.
-ghost use Rattle.std.specs.Prelude.{◌≡◌, ◌↔◌, ◌++◌, ◌⊎◌, ◌∷◌, [], ◌-◌, ◌<◌, List, IfNone, IfOk, IfSome, IsTrue, None, OnOk, length};
+ghost use Rattle.std.specs.Prelude.{◌≡◌, ◌↔◌, ◌++◌, ◌⊎◌, ◌∷◌, [], ◌+◌, ◌-◌, ◌<◌, ◌≤◌, List, IfNone, IfOk, IfSome, IsTrue, None, OnOk, false, length, take, true};
+ghost use Rattle.hp_workers.specs.Claims.{AreOwn};
 ghost use Rattle.std.specs.HashSet.{contains};
 ghost use Rattle.std.specs.Option.{option_map};
 ghost use Rattle.hp_layers.specs.Layers.{AddsAll, AddsSome, AreBytes, AreCounted, AreKeysOf, AreNext, AreValid, IsCovered, KeysStand};
-ghost use Rattle.hp_layers.specs.Layers.{Fits, IsOver, LacksBytes, LacksRoom, MeetsAt, NoneIsMet};
+ghost use Rattle.hp_layers.specs.Layers.{Fits, IsBehind, IsGathered, IsOver, LacksBytes, LacksRoom, MeetsAt, NoneIsMet};
 
 use crate::limits::Limits;
-use crate::parts::{After, part_len, part_of};
+use crate::parts::{After, part_end};
 use crate::turns::Turns;
-use hp_workers::next_made;
+use hp_workers::{made_ahead, take_or_make};
 use std::alloc::{AllocError, Global};
 use std::collections::HashSet;
-use std::thread::Threads;
+use std::thread::{Threads, join_mut};
 
 /// The states of a layer, and how many bytes they take: the largest number stands for as many or more.
 #[derive(Drop)]
@@ -129,6 +130,145 @@ pub(crate) fn add_all<M: Turns>(
     Ok(())
 }
 
+/// What workers made of the states of a part.
+pub(crate) type Made<S> = Vec<Option<Vec<S>>>;
+
+/// What workers make of the part that begins here, if it is worth it.
+fn ahead_of<M: Turns + Sync>(
+    rt: &(impl Threads + Sync),
+    alloc: Global,
+    system: &M,
+    layer: &[M::State],
+    begin: usize,
+) -> Result<Made<M::State>, AllocError>
+    requires layer { AreValid (M.valid system.now) layer.now }
+    requires within { begin ≤ length layer.now }
+    ensures own { IfOk result (λ made. AreOwn (IsBehind (M.turn system.now) (M.alike system.now) layer.now begin) made.items) }
+{
+    let part = After {
+        system,
+        layer,
+        begin,
+    };
+    let places = part_end(begin, layer.len()) - begin;
+    made_ahead(rt, alloc, &part, places as u32)
+}
+
+/// Adds the states behind those of a part, of which workers made some, and tells
+/// whether there was room for them.
+fn add_part<M: Turns + Sync>(
+    alloc: Global,
+    system: &M,
+    layer: &[M::State],
+    begin: usize,
+    end: usize,
+    made: &mut Made<M::State>,
+    room: Room,
+    seen: &mut HashSet<M::Key>,
+    next: &mut Layer<M::State>,
+) -> Result<bool, AllocError>
+    requires layer { AreValid (M.valid system.now) layer.now }
+    requires order { begin ≤ end }
+    requires within { end ≤ length layer.now }
+    requires few { end ≤ begin + 1024 }
+    requires own { AreOwn (IsBehind (M.turn system.now) (M.alike system.now) layer.now begin) made.old.items }
+    requires gathered { IsGathered M.Key.eq (M.key_of system.now) (M.valid system.now) (M.turn system.now) (M.alike system.now)
+        (M.bytes_of system.now) room.states room.bytes
+        (take begin layer.now) (contains M.Key.eq seen.old) seen.old.keys next.old.states.items next.old.bytes }
+    ensures gathered { IfOk result (λ fits. fits ≡ true
+        → IsGathered M.Key.eq (M.key_of system.now) (M.valid system.now) (M.turn system.now) (M.alike system.now)
+        (M.bytes_of system.now) room.states room.bytes
+        (take end layer.now) (contains M.Key.eq seen.new) seen.new.keys next.new.states.items next.new.bytes) }
+    ensures none { IfOk result (λ fits. fits ≡ false
+        → LacksRoom M.Key.eq (M.key_of system.now) (M.turn system.now) layer.now room.states
+        ⊎ LacksBytes M.Key.eq (M.key_of system.now) (M.turn system.now) (M.bytes_of system.now) layer.now room.bytes) }
+{
+    let part = After {
+        system,
+        layer,
+        begin,
+    };
+    for place in 0..end - begin {
+        let after = take_or_make(alloc, &part, made, place as u32)?;
+        add_all(alloc, system, seen, next, after)?;
+        if exceeds(next.states.len(), next.bytes, room) {
+            return Ok(false);
+        }
+    }
+    Ok(true)
+}
+
+/// Adds the states behind those of a part, and has workers go on from the part behind it meanwhile. Gives what they made, and tells whether
+/// there was room.
+fn add_beside<M: Turns + Sync>(
+    rt: &(impl Threads + Sync),
+    alloc: Global,
+    system: &M,
+    layer: &[M::State],
+    begin: usize,
+    end: usize,
+    mut made: Made<M::State>,
+    room: Room,
+    seen: &mut HashSet<M::Key>,
+    next: &mut Layer<M::State>,
+) -> Result<(Made<M::State>, bool), AllocError>
+    requires layer { AreValid (M.valid system.now) layer.now }
+    requires order { begin ≤ end }
+    requires within { end ≤ length layer.now }
+    requires few { end ≤ begin + 1024 }
+    requires own { AreOwn (IsBehind (M.turn system.now) (M.alike system.now) layer.now begin) made.items }
+    requires gathered { IsGathered M.Key.eq (M.key_of system.now) (M.valid system.now) (M.turn system.now) (M.alike system.now)
+        (M.bytes_of system.now) room.states room.bytes
+        (take begin layer.now) (contains M.Key.eq seen.old) seen.old.keys next.old.states.items next.old.bytes }
+    ensures own { IfOk result (λ done. AreOwn (IsBehind (M.turn system.now) (M.alike system.now) layer.now end) done.0.items) }
+    ensures gathered { IfOk result (λ done. done.1 ≡ true
+        → IsGathered M.Key.eq (M.key_of system.now) (M.valid system.now) (M.turn system.now) (M.alike system.now)
+        (M.bytes_of system.now) room.states room.bytes
+        (take end layer.now) (contains M.Key.eq seen.new) seen.new.keys next.new.states.items next.new.bytes) }
+    ensures none { IfOk result (λ done. done.1 ≡ false
+        → LacksRoom M.Key.eq (M.key_of system.now) (M.turn system.now) layer.now room.states
+        ⊎ LacksBytes M.Key.eq (M.key_of system.now) (M.turn system.now) (M.bytes_of system.now) layer.now room.bytes) }
+{
+    if end == layer.len() {
+        let fits = add_part(
+            alloc, system, layer, begin, end, &mut made, room, seen, next,
+        )?;
+        return Ok((Vec::new(alloc), fits));
+    }
+    let (ahead, fits) = join_mut(
+        rt,
+        &mut || -> Result<Made<M::State>, AllocError>
+            requires layer { AreValid (M.valid system.now) layer.now }
+            requires within { end ≤ length layer.now }
+        { ahead_of(rt, alloc, system, layer, end) },
+        &mut || -> Result<bool, AllocError>
+            requires layer { AreValid (M.valid system.now) layer.now }
+            requires order { begin ≤ end }
+            requires within { end ≤ length layer.now }
+            requires few { end ≤ begin + 1024 }
+            requires own { AreOwn (IsBehind (M.turn system.now) (M.alike system.now) layer.now begin) made.items }
+            requires gathered { IsGathered M.Key.eq (M.key_of system.now) (M.valid system.now) (M.turn system.now) (M.alike system.now)
+                (M.bytes_of system.now) room.states room.bytes (take begin layer.now) (contains M.Key.eq seen.now) seen.now.keys
+                next.now.states.items next.now.bytes }
+            ensures gathered { IfOk result (λ fits. fits ≡ true
+                → IsGathered M.Key.eq (M.key_of system.entry.now) (M.valid system.entry.now) (M.turn system.entry.now) (M.alike system.entry.now)
+                (M.bytes_of system.entry.now) room.states room.bytes (take end layer.entry.now) (contains M.Key.eq seen.exit.now)
+                seen.exit.now.keys next.exit.now.states.items next.exit.now.bytes) }
+            ensures none { IfOk result (λ fits. fits ≡ false
+                → LacksRoom M.Key.eq (M.key_of system.entry.now) (M.turn system.entry.now) layer.entry.now room.states
+                ⊎ LacksBytes M.Key.eq (M.key_of system.entry.now) (M.turn system.entry.now) (M.bytes_of system.entry.now) layer.entry.now
+                room.bytes) }
+        {
+            add_part(
+                alloc, system, layer, begin, end, &mut made, room, seen, next,
+            )
+        },
+    );
+    let ahead = ahead?;
+    let fits = fits?;
+    Ok((ahead, fits))
+}
+
 /// The layer behind this one, unless there isn't room for it.
 pub(crate) fn next_layer<M: Turns + Sync>(
     rt: &(impl Threads + Sync),
@@ -149,22 +289,18 @@ pub(crate) fn next_layer<M: Turns + Sync>(
 {
     let mut seen = HashSet::new(alloc);
     let mut next = no_layer(alloc);
+    let mut made = ahead_of(rt, alloc, system, layer, 0)?;
     let mut begin = 0;
-    let mut ahead = Vec::new(alloc);
-    for place in 0..layer.len() {
-        begin = part_of(begin, place);
-        let part = After {
-            system,
-            layer,
-            begin,
-        };
-        let states = part_len(begin, layer.len());
-        let at = (place - begin) as u32;
-        let after = next_made(rt, alloc, &part, states, &mut ahead, at)?;
-        add_all(alloc, system, &mut seen, &mut next, after)?;
-        if exceeds(next.states.len(), next.bytes, room) {
+    while begin < layer.len() {
+        let end = part_end(begin, layer.len());
+        let (ahead, fits) = add_beside(
+            rt, alloc, system, layer, begin, end, made, room, &mut seen, &mut next,
+        )?;
+        if !fits {
             return Ok(None);
         }
+        made = ahead;
+        begin = end;
     }
     Ok(Some(next))
 }

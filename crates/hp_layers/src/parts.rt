@@ -8,25 +8,18 @@ use crate::turns::Turns;
 use hp_workers::Work;
 use std::alloc::{AllocError, Global};
 
-/// A part has so many states. What comes after them is in memory at once.
-const PART: usize = 4096;
+/// A part has so many states. What comes after those of two parts is in memory at once.
+const PART: usize = 1024;
 
-/// Where the part begins that has this state: where the state before it was, or here.
-pub(crate) fn part_of(begin: usize, place: usize) -> usize
-    requires { begin ≤ place }
-    ensures { (result ≡ place) ⊎ ((result ≡ begin) × (place < begin + 4096)) }
-{
-    if place - begin < PART { begin } else { place }
-}
-
-/// How many states are in a part of so many that begins here.
-pub(crate) fn part_len(begin: usize, all: usize) -> u32
+/// Where the part ends that begins here.
+pub(crate) fn part_end(begin: usize, all: usize) -> usize
     requires { begin ≤ all }
-    ensures few { result ≤ 4096 }
-    ensures within { begin + result ≤ all }
-    ensures most { (result ≡ 4096) ⊎ (begin + result ≡ all) }
+    ensures from { begin ≤ result }
+    ensures few { result ≤ begin + 1024 }
+    ensures within { result ≤ all }
+    ensures some { begin < all → begin < result }
 {
-    (all - begin).min(PART) as u32
+    begin + (all - begin).min(PART)
 }
 
 /// The states behind those of a part of a layer.

@@ -1,4 +1,4 @@
-//! Places that are asked for in order, of which several workers make some ahead.
+//! Places of which several workers make some ahead, before they are asked for in order.
 ghost use Rattle.std.specs.Prelude.{◌<◌, IfOk, OnOk};
 ghost use Rattle.hp_workers.specs.Claims.{AreOwn, CanMakeAll};
 
@@ -11,7 +11,7 @@ use std::thread::Threads;
 const FEW: u32 = 64;
 
 /// What workers make of so many places, if these are worth it.
-fn made_ahead<W: Work + Sync>(
+pub fn made_ahead<W: Work + Sync>(
     rt: &(impl Threads + Sync),
     alloc: Global,
     work: &W,
@@ -26,42 +26,18 @@ fn made_ahead<W: Work + Sync>(
     side_by_side(rt, alloc, work, places)
 }
 
-/// Has workers make what they can, if this is the first of the places.
-fn begin<W: Work + Sync>(
-    rt: &(impl Threads + Sync),
+/// What was made ahead at a place, or else is made now.
+pub fn take_or_make<W: Work>(
     alloc: Global,
     work: &W,
-    places: u32,
-    slots: &mut Vec<Option<W::Made>>,
-    place: u32,
-) -> Result<(), AllocError>
-    requires each { CanMakeAll (W.can_make work.now) places }
-    requires own { 0 < place → AreOwn (W.is_right work.now) slots.old.items }
-    ensures { OnOk result (AreOwn (W.is_right work.now) slots.new.items) }
-{
-    if place == 0 {
-        *slots = made_ahead(rt, alloc, work, places)?;
-    }
-    Ok(())
-}
-
-/// What is made at one of so many places, which are asked for one after the other: at the first of them several workers make what they can.
-/// `slots` is kept between the calls. What it has before the first is of no account.
-pub fn next_made<W: Work + Sync>(
-    rt: &(impl Threads + Sync),
-    alloc: Global,
-    work: &W,
-    places: u32,
     slots: &mut Vec<Option<W::Made>>,
     place: u32,
 ) -> Result<W::Made, AllocError>
-    requires each { CanMakeAll (W.can_make work.now) places }
-    requires there { place < places }
-    requires own { 0 < place → AreOwn (W.is_right work.now) slots.old.items }
+    requires there { W.can_make work.now place }
+    requires own { AreOwn (W.is_right work.now) slots.old.items }
     ensures right { IfOk result (W.is_right work.now place) }
     ensures own { OnOk result (AreOwn (W.is_right work.now) slots.new.items) }
 {
-    begin(rt, alloc, work, places, slots, place)?;
     let at = place as usize;
     if slots.len() <= at {
         return work.make(alloc, place);

@@ -9,7 +9,7 @@ mod claims;
 mod progress;
 mod work;
 
-pub use ahead::next_made;
+pub use ahead::{made_ahead, take_or_make};
 pub use claims::{all_made, found_or_made, side_by_side};
 pub use progress::{FIRST_PART, Progress, next_part};
 pub use work::Work;

@@ -1,7 +1,7 @@
 //! Squares of numbers.
 ghost use Rattle.std.specs.Prelude.{◌≡◌, ◌*◌, ◌^◌, ◌<◌};
 
-use crate::ahead::next_made;
+use crate::ahead::{made_ahead, take_or_make};
 use crate::claims::{all_made, found_or_made, side_by_side};
 use crate::progress::next_part;
 use crate::work::Work;
@@ -58,14 +58,16 @@ fn parts_grow(rt: HostRuntime) {
     assert_eq!(rt; next_part(64, 2048, 4, 4_000_000), 64);
 }
 
-// At the first place as many workers as there are make what they can; the second is asked for afterwards.
+// Of many places workers make all, of few none: what nobody made is made when it is asked for.
 #[test]
 fn places_are_made_ahead(rt: HostRuntime) -> Result<(), Fail> {
     let squares = Squares { large: 1_000_000 };
-    let mut slots = Vec::new(rt.alloc());
-    let first = next_made(&rt, rt.alloc(), &squares, 100, &mut slots, 0)?;
-    let second = next_made(&rt, rt.alloc(), &squares, 100, &mut slots, 1)?;
-    assert_eq!(rt; (first, second), (0, 1));
-    assert_eq!(rt; slots.len(), 100);
+    for (places, made) in [(64, 64), (63, 0)] {
+        let mut slots = made_ahead(&rt, rt.alloc(), &squares, places)?;
+        assert_eq!(rt; slots.len(), made);
+        let first = take_or_make(rt.alloc(), &squares, &mut slots, 3)?;
+        let again = take_or_make(rt.alloc(), &squares, &mut slots, 3)?;
+        assert_eq!(rt; (first, again), (9, 9));
+    }
     Ok(())
 }
