@@ -8,7 +8,7 @@ It proves and builds the program and the library, where that isn't done yet, and
   hugepool_*.deb, libhugepool1_*.deb, libhugepool-dev_*.deb, python3-hugepool_*.deb
                                   the same as packages of Debian's
   hugepool-VERSION-*.whl          the Python module with the library in it, for pip
-  hugepool.html                   the library as a page for browsers (./page), if the tools for it are there
+  hugepool.html                   the library as a page for browsers (./viewer), if the tools for it are there
   SHA256SUMS                      their checksums
 
 In each, the file PROVED has the commit and the toolchain's last lines. VERSION is what `hugepool --version` prints. Two runs on one commit
@@ -17,7 +17,7 @@ and one system write the same bytes. packaging/test.sh installs dist/ on a new D
 Variables, to try this without proofs; PROVED then says that the files were built elsewhere:
   PACKAGE_PROGRAM=FILE   a program that is built already
   PACKAGE_ARCHIVE=FILE   the same for libhp_c.a, the archive that the toolchain builds of crates/hp_c; without PAGE_MODULE, which
-                         ./page takes, there is no page then
+                         ./viewer takes, there is no page then
 """
 from __future__ import annotations
 
@@ -262,12 +262,12 @@ def page(to: Path) -> list[Path]:
         say("the page is left out: PACKAGE_ARCHIVE names a library whose module isn't known, and PAGE_MODULE names none")
         return []
     say("the page")
-    status = subprocess.run([TOP / "page", to], stdin=subprocess.DEVNULL).returncode
+    status = subprocess.run([TOP / "viewer", to], stdin=subprocess.DEVNULL).returncode
     if status == 127:
         say("the page is left out, since tools for it are missing")
         return []
     if status:
-        raise Failed("package: ./page failed")
+        raise Failed("package: ./viewer failed")
     return [to]
 
 

@@ -4,7 +4,7 @@
 usage: lost.py [RECORDING ..]
 
 Without words it reads all that are in recordings/, but for those of repaired kernels. A count at rest is compared with the reserved
-indices less the pages: the law of crates/hp_schedules, by which it may be too low and never too high. Status: 0 some is too low and none
+indices less the pages: the law of crates/hp_linux_laws, by which it may be too low and never too high. Status: 0 some is too low and none
 too high, 1 it isn't so.
 """
 from __future__ import annotations

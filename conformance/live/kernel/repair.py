@@ -5,7 +5,7 @@ count is raised by the difference; a raise that a removal owes asks for no free 
 gives its reservation back.
 
 `slots`: besides, a truncation takes each reserved index of its tail out of the map under that index's fault mutex, from the top down. So
-no fault works at an index whose entry goes. That such rows keep the count exact is proved in hp_schedules (`a_repaired_count_is_exact`).
+no fault works at an index whose entry goes. That such rows keep the count exact is proved in hp_linux_laws (`a_repaired_count_is_exact`).
 """
 from __future__ import annotations
 

@@ -18,21 +18,21 @@ use Rattle.hp_machine.specs.declared.outcome.Outcome.{Outcome}
 use Rattle.hp_machine.specs.declared.outcome.Outcome.TheVariants as outcome
 use Rattle.hp_text.specs.Columns.{column_of, column_of_task}
 use Rattle.hp_watch.specs.Happenings.{Happening, Happens, phase_in}
-use Rattle.hp_draw.specs.Following.{standing_after, stay_in, stay_left}
+use Rattle.hp_draw.specs.Following.{open_stay_after, stay_in, stay_left}
 use Rattle.hp_draw.specs.Following.{block_behind, block_of, failed_with, failure_of, has_moved, next_of, mark_of, mark_with, sign_of}
 use Rattle.hp_draw.specs.Lists.{listed}
 use Rattle.hp_draw.specs.Places.{InColumns}
 use Rattle.hp_draw.specs.Sketches.{Drawn, IsDrawn, nothing_drawn, after, after_all, stays_in, waiting_then}
 use Rattle.hp_draw.specs.Waits.{is_for, wait_left, waiting_tasks, waits_left}
 use Rattle.hp_draw.specs.declared.following.Sign.{Sign}
-use Rattle.hp_draw.specs.declared.following.Standing.{Standing}
+use Rattle.hp_draw.specs.declared.following.OpenStay.{OpenStay}
 use Rattle.hp_draw.specs.declared.following.Stay.{Stay}
 use Rattle.hp_draw.specs.declared.waits.Wait.{Wait}
 use Rattle.hp_draw.specs.declared.waits.Waiting.{Waiting}
 
 -- so many columns, and all stands in one of them
 record Inside (n : ℕ) (d : Drawn) : Type 0 where
-  count : length d.standings ≡ n
+  count : length d.open_stays ≡ n
   tasks : length d.waiting < n
   stays : All (λ s. s.column < n) d.stays
   marks : All (λ m. m.column < n) d.marks
@@ -57,13 +57,13 @@ if_stay : (n : ℕ) (b : Bool) (s : Stay) → s.column < n → IfSome (if b then
 if_stay n true s h = h
 if_stay n false s h = tt
 
-left_inside : (n column at : ℕ) (before now : Option Standing) (outcome : Outcome) → column < n
+left_inside : (n column at : ℕ) (before now : Option OpenStay) (outcome : Outcome) → column < n
     → IfSome (stay_left column at before now outcome) (λ x. x.column < n)
 left_inside n column at None now outcome h = tt
 left_inside n column at (Some s) now outcome h =
-    if_stay n (has_moved s now) (record { column = column; standing = s; until = at; next = next_of outcome }) h
+    if_stay n (has_moved s now) (record { column = column; open_stay = s; until = at; next = next_of outcome }) h
 
-in_inside : (n column at : ℕ) (standing : Option Standing) → column < n → IfSome (stay_in column at standing) (λ x. x.column < n)
+in_inside : (n column at : ℕ) (open_stay : Option OpenStay) → column < n → IfSome (stay_in column at open_stay) (λ x. x.column < n)
 in_inside n column at None h = tt
 in_inside n column at (Some s) h = h
 
@@ -122,7 +122,7 @@ after_inside : (tasks at : ℕ) (d : Drawn) (h : Happening) → (config_of h.cor
 unfolding after
 after_inside tasks at d h same i =
     record {
-      count = length-set d.standings column now ∙ i.count;
+      count = length-set d.open_stays column now ∙ i.count;
       tasks =
           let counted = waiting_count h.core at h.holders d.waiting (config_of h.core).tasks in
           omega (arith, counted, same);
@@ -151,11 +151,11 @@ after_inside tasks at d h same i =
     column : ℕ
     column = column_of (config_of h.core).tasks h.event
 
-    before : Option Standing
-    before = get_or d.standings column None
+    before : Option OpenStay
+    before = get_or d.open_stays column None
 
-    now : Option Standing
-    now = standing_after before at h.event h.outcome (phase_in h.core column)
+    now : Option OpenStay
+    now = open_stay_after before at h.event h.outcome (phase_in h.core column)
 
     there : column < tasks + 1
     there = subst (λ (n : ℕ). column < n + 1) same (event_inside (config_of h.core).tasks h.event)
@@ -177,13 +177,13 @@ all_inside tasks at d old new (h ∷ more) same happens i =
     kept = ap (λ (s : Sizes). s.tasks) (row_keeps old h.core h.event h.outcome happens.0.0) ∙ same
 
 -- the calls in flight at the end
-flight_inside : (at : ℕ) (standings : List (Option Standing)) (n : ℕ) → All (λ s. s.column < n) (stays_in at standings n)
+flight_inside : (at : ℕ) (open_stays : List (Option OpenStay)) (n : ℕ) → All (λ s. s.column < n) (stays_in at open_stays n)
 unfolding stays_in
-flight_inside at standings zero = All-nil (λ s. s.column < 0)
-flight_inside at standings (suc n) =
-    All-append (λ s. s.column < suc n) (stays_in at standings n) _
-    (All-weaker (λ s. s.column < n) (λ s. s.column < suc n) (λ s lt. omega (arith, lt)) (stays_in at standings n)
-    (flight_inside at standings n))
+flight_inside at open_stays zero = All-nil (λ s. s.column < 0)
+flight_inside at open_stays (suc n) =
+    All-append (λ s. s.column < suc n) (stays_in at open_stays n) _
+    (All-weaker (λ s. s.column < n) (λ s. s.column < suc n) (λ s lt. omega (arith, lt)) (stays_in at open_stays n)
+    (flight_inside at open_stays n))
     (listed_all (λ s. s.column < suc n) _ (in_inside (suc n) n at _ (omega arith)))
 
 pub opened : (config : Config) (first : CoreState) → IsOpening config first → config_of first ≡ sizes config
@@ -207,8 +207,8 @@ run_inside s events d r =
     (ap (λ (z : Sizes). z.tasks) (opened r.config r.first r.opening ∙ r.sizes_are)) r.happens (nothing_inside s.tasks)
 
 -- what is drawn of a run has a column for each task, and one for what is of none
-pub columns_count : (s : Sizes) (events : List Event) (d : Drawn) → IsDrawn s events d → length d.standings ≡ s.tasks + 1
-columns_count s events d r = ap (λ (x : Drawn). length x.standings) r.is ∙ (run_inside s events d r).count
+pub columns_count : (s : Sizes) (events : List Event) (d : Drawn) → IsDrawn s events d → length d.open_stays ≡ s.tasks + 1
+columns_count s events d r = ap (λ (x : Drawn). length x.open_stays) r.is ∙ (run_inside s events d r).count
 
 -- and all stands in them
 pub in_columns : (s : Sizes) (events : List Event) (d : Drawn) → IsDrawn s events d → InColumns d
@@ -221,8 +221,8 @@ in_columns s events d r = subst InColumns (sym r.is) whole
     i = run_inside s events d r
 
     whole : InColumns (record {
-      standings = ran.standings;
-      stays = ran.stays ++ stays_in (length r.happenings) ran.standings (length ran.standings);
+      open_stays = ran.open_stays;
+      stays = ran.stays ++ stays_in (length r.happenings) ran.open_stays (length ran.open_stays);
       marks = ran.marks;
       numbers = ran.numbers;
       waiting = ran.waiting;
@@ -231,14 +231,14 @@ in_columns s events d r = subst InColumns (sym r.is) whole
     whole =
         record {
           stays =
-              All-append (λ s. s.column < length ran.standings) ran.stays _
+              All-append (λ s. s.column < length ran.open_stays) ran.stays _
               (subst (λ (n : ℕ). All (λ s. s.column < n) ran.stays) (sym i.count) i.stays)
-              (flight_inside (length r.happenings) ran.standings (length ran.standings));
+              (flight_inside (length r.happenings) ran.open_stays (length ran.open_stays));
           marks = subst (λ (n : ℕ). All (λ m. m.column < n) ran.marks) (sym i.count) i.marks;
           waits =
-              All-append (λ w. w.column < length ran.standings) ran.waits _
+              All-append (λ w. w.column < length ran.open_stays) ran.waits _
               (subst (λ (n : ℕ). All (λ w. w.column < n) ran.waits) (sym i.count) i.waits)
-              (waits_inside (length ran.standings) (length r.happenings) ran.waiting [] (length ran.waiting)
+              (waits_inside (length ran.open_stays) (length r.happenings) ran.waiting [] (length ran.waiting)
               (subst (λ (n : ℕ). length ran.waiting < n) (sym i.count) i.tasks));
         }
 

@@ -19,7 +19,7 @@ use Rattle.hp_draw.specs.Sketches.{AreWaits, Drawn, IsDrawn, nothing_drawn, afte
 use Rattle.hp_draw.specs.Sketches.{stays_in, ended}
 use Rattle.hp_draw.proofs.Columns.{opened}
 use Rattle.hp_draw.proofs.Exact.{exact_waits}
-use Rattle.hp_draw.specs.declared.following.Standing.{Standing}
+use Rattle.hp_draw.specs.declared.following.OpenStay.{OpenStay}
 use Rattle.hp_draw.specs.declared.following.Stay.{Stay}
 
 -- what is drawn of it is added to what was drawn before
@@ -112,13 +112,13 @@ whole_run config events slice n at first new d dd same le number opening s ends 
 
 -- the stays in flight, column by column
 
-pub no_stay : (at : ℕ) (standings : List (Option Standing)) (old : List Stay) → old ≡ old ++ stays_in at standings 0
+pub no_stay : (at : ℕ) (open_stays : List (Option OpenStay)) (old : List Stay) → old ≡ old ++ stays_in at open_stays 0
 unfolding stays_in
-no_stay at standings old = sym (append-nil old)
+no_stay at open_stays old = sym (append-nil old)
 
-pub one_stay : (at : ℕ) (standings : List (Option Standing)) (n : ℕ) (old now new : List Stay) → now ≡ old ++ stays_in at standings n
-    → new ≡ now ++ listed (stay_in n at (get_or standings n None)) → new ≡ old ++ stays_in at standings (n + 1)
+pub one_stay : (at : ℕ) (open_stays : List (Option OpenStay)) (n : ℕ) (old now new : List Stay) → now ≡ old ++ stays_in at open_stays n
+    → new ≡ now ++ listed (stay_in n at (get_or open_stays n None)) → new ≡ old ++ stays_in at open_stays (n + 1)
 unfolding stays_in
-one_stay at standings n old now new is e =
-    rw (add-one) (e ∙ ap (λ (x : List Stay). x ++ listed (stay_in n at (get_or standings n None))) is
-    ∙ append_assoc old (stays_in at standings n) (listed (stay_in n at (get_or standings n None))))
+one_stay at open_stays n old now new is e =
+    rw (add-one) (e ∙ ap (λ (x : List Stay). x ++ listed (stay_in n at (get_or open_stays n None))) is
+    ∙ append_assoc old (stays_in at open_stays n) (listed (stay_in n at (get_or open_stays n None))))

@@ -9,7 +9,7 @@ use Rattle.hp_machine.specs.declared.outcome.Outcome.TheVariants as outcome
 use Rattle.hp_machine.specs.declared.phase.Phase.{Phase}
 use Rattle.hp_core.specs.Readers.{free_of, resv_of, owed_of, all_reserved_of, all_pages_of, quota_of, used_of}
 use Rattle.hp_core.specs.State.{CoreState}
-use Rattle.hp_draw.specs.declared.following.Standing.{Standing}
+use Rattle.hp_draw.specs.declared.following.OpenStay.{OpenStay}
 use Rattle.hp_draw.specs.declared.following.Stay.{Stay}
 use Rattle.hp_draw.specs.declared.following.Mark.{Mark}
 use Rattle.hp_draw.specs.declared.following.Numbers.{Numbers}
@@ -19,7 +19,7 @@ use Rattle.hp_draw.specs.declared.following.Sign.{Sign}
 use Rattle.hp_draw.specs.declared.following.Sign.TheVariants as sign
 
 -- where a call stands that begins
-abbrev pub begun : (at : ℕ) → Event → Option Phase → Option Standing
+abbrev pub begun : (at : ℕ) → Event → Option Phase → Option OpenStay
 begun at (Begin task op) (Some phase) = Some (record { op = op; begun = at; since = at; phase = phase })
 begun at (Begin task op) None = None
 begun at (Step task granted) phase = None
@@ -27,19 +27,19 @@ begun at (Kill task) phase = None
 begun at (Resize frames) phase = None
 
 -- where a call stands that moved
-abbrev pub moved : Option Standing → (at : ℕ) → Phase → Option Standing
+abbrev pub moved : Option OpenStay → (at : ℕ) → Phase → Option OpenStay
 moved (Some s) at phase = Some (record { op = s.op; begun = s.begun; since = at; phase = phase })
 moved None at phase = None
 
 -- where a task's call stands after an event of it, if one is in flight then
-abbrev pub standing_after : Option Standing → (at : ℕ) → Event → Outcome → Option Phase → Option Standing
-standing_after before at event outcome.Begun phase = begun at event phase
-standing_after before at event (outcome.Moved to) phase = moved before at to
-standing_after before at event (outcome.Blocked holder) phase = before
-standing_after before at event (outcome.Ended answer) phase = None
-standing_after before at event outcome.Marked phase = before
-standing_after before at event (outcome.Resized frames) phase = before
-standing_after before at event (outcome.Refused why) phase = before
+abbrev pub open_stay_after : Option OpenStay → (at : ℕ) → Event → Outcome → Option Phase → Option OpenStay
+open_stay_after before at event outcome.Begun phase = begun at event phase
+open_stay_after before at event (outcome.Moved to) phase = moved before at to
+open_stay_after before at event (outcome.Blocked holder) phase = before
+open_stay_after before at event (outcome.Ended answer) phase = None
+open_stay_after before at event outcome.Marked phase = before
+open_stay_after before at event (outcome.Resized frames) phase = before
+open_stay_after before at event (outcome.Refused why) phase = before
 
 -- what comes behind a stay that such an outcome ends
 abbrev pub next_of : Outcome → Next
@@ -52,24 +52,24 @@ next_of (outcome.Resized frames) = next.GoesOn
 next_of (outcome.Refused why) = next.GoesOn
 
 -- whether the call is over, or stands since another moment
-abbrev pub has_moved : Standing → Option Standing → Bool
+abbrev pub has_moved : OpenStay → Option OpenStay → Bool
 has_moved s None = true
 has_moved s (Some other) = not (other.since == s.since)
 
 -- the stay of a call that stood so, if it doesn't stand so after the event
-abbrev pub stay_of : (column at : ℕ) → Standing → (after : Option Standing) → Outcome → Option Stay
+abbrev pub stay_of : (column at : ℕ) → OpenStay → (after : Option OpenStay) → Outcome → Option Stay
 stay_of column at s after outcome =
-    if has_moved s after then Some (record { column = column; standing = s; until = at; next = next_of outcome }) else None
+    if has_moved s after then Some (record { column = column; open_stay = s; until = at; next = next_of outcome }) else None
 
 -- the stay that an event ends, if it ends one
-abbrev pub stay_left : (column at : ℕ) → (before after : Option Standing) → Outcome → Option Stay
+abbrev pub stay_left : (column at : ℕ) → (before after : Option OpenStay) → Outcome → Option Stay
 stay_left column at None after outcome = None
 stay_left column at (Some s) after outcome = stay_of column at s after outcome
 
 -- the stay of a call that is in flight at the end
-abbrev pub stay_in : (column at : ℕ) → Option Standing → Option Stay
+abbrev pub stay_in : (column at : ℕ) → Option OpenStay → Option Stay
 stay_in column at None = None
-stay_in column at (Some s) = Some (record { column = column; standing = s; until = at; next = next.InFlight })
+stay_in column at (Some s) = Some (record { column = column; open_stay = s; until = at; next = next.InFlight })
 
 -- what is marked of an event that wasn't refused: a denial, a kill, else what its outcome has
 abbrev pub sign_for : Event → Option Sign → Option Sign

@@ -12,7 +12,7 @@ use Rattle.hp_draw.specs.Layouts.{x_of, width_of, top_of}
 use Rattle.hp_draw.specs.Shapes.{box_text, words_text, upright_text}
 use Rattle.hp_draw.specs.declared.following.Next.{Next}
 use Rattle.hp_draw.specs.declared.following.Next.TheVariants.{GoesOn, Ended, InFlight}
-use Rattle.hp_draw.specs.declared.following.Standing.{Standing}
+use Rattle.hp_draw.specs.declared.following.OpenStay.{OpenStay}
 use Rattle.hp_draw.specs.declared.following.Stay.{Stay}
 use Rattle.hp_draw.specs.declared.layout.Layout.{Layout}
 use Rattle.hp_draw.specs.declared.layout.TheConstants.{LEFT}
@@ -54,7 +54,7 @@ lanes_text l (suc n) = lanes_text l n ++ lane_text l n (get_or l.tops.items n No
 -- where the box of a stay is
 unfoldable pub place_of : Layout → Stay → Place
 place_of l s =
-    record { x = x_of l s.standing.since; y = top_of l s.column; width = width_of l s.standing.since s.until; height = l.tall }
+    record { x = x_of l s.open_stay.since; y = top_of l s.column; width = width_of l s.open_stay.since s.until; height = l.tall }
 
 abbrev pub ended_words : Next → (until : ℕ) → List ℕ
 ended_words GoesOn until = []
@@ -63,7 +63,7 @@ ended_words (Ended answer) until =
 ended_words InFlight until = []
 
 -- which call stands where, in the numbers of the trace's lines
-unfoldable pub stood_text : (column : ℕ) → Standing → List ℕ
+unfoldable pub stood_text : (column : ℕ) → OpenStay → List ℕ
 stood_text column s =
     codes "<g><title>line " ++ (decimal (s.since + 2)
     ++ (codes ": " ++ (op_text s.op
@@ -76,7 +76,7 @@ linux_text op phase = codes " (Linux: " ++ (linux_of_op op phase ++ codes ")")
 -- what is told of a stay where the pointer rests on it
 unfoldable pub told_text : Stay → List ℕ
 told_text s =
-    stood_text s.column s.standing ++ (linux_text s.standing.op s.standing.phase ++ (ended_words s.next s.until ++ codes "</title>"))
+    stood_text s.column s.open_stay ++ (linux_text s.open_stay.op s.open_stay.phase ++ (ended_words s.next s.until ++ codes "</title>"))
 
 -- the phase's name: along the box, upright in it, or not at all, as there is room
 unfoldable pub phase_text : Place → (phase : List ℕ) → List ℕ
@@ -86,11 +86,11 @@ phase_text p phase =
 
 -- the box of a stay, coloured by operation, and what is told of it
 abbrev pub stay_text : Layout → Stay → List ℕ
-stay_text l s = told_text s ++ (box_text (class_of s.standing.op) (place_of l s) ++ codes "</g>\n")
+stay_text l s = told_text s ++ (box_text (class_of s.open_stay.op) (place_of l s) ++ codes "</g>\n")
 
 -- the name of its phase
 abbrev pub phase_of : Layout → Stay → List ℕ
-phase_of l s = phase_text (place_of l s) (phase_word s.standing.phase)
+phase_of l s = phase_text (place_of l s) (phase_word s.open_stay.phase)
 
 -- the words over a call: with its answer where they have room, else without
 abbrev pub label_of : Op → Next → (room : ℕ) → List ℕ
@@ -112,4 +112,4 @@ over_text op InFlight x y room = label_text x y room (op_text op)
 -- the words over a call, at its last stay
 abbrev pub call_text : Layout → Stay → List ℕ
 call_text l s =
-    over_text s.standing.op s.next (x_of l s.standing.begun + 1) (top_of l s.column - 4) (width_of l s.standing.begun s.until / 6)
+    over_text s.open_stay.op s.next (x_of l s.open_stay.begun + 1) (top_of l s.column - 4) (width_of l s.open_stay.begun s.until / 6)

@@ -8,9 +8,9 @@ use Rattle.hp_draw.specs.declared.layout.TheConstants.{TOP}
 
 -- each stay, each mark and each wait stands in one of the columns
 pub record InColumns (d : Drawn) : Type 0 where
-  pub stays : All (λ s. s.column < length d.standings) d.stays
-  pub marks : All (λ m. m.column < length d.standings) d.marks
-  pub waits : All (λ w. w.column < length d.standings) d.waits
+  pub stays : All (λ s. s.column < length d.open_stays) d.stays
+  pub marks : All (λ m. m.column < length d.open_stays) d.marks
+  pub waits : All (λ w. w.column < length d.open_stays) d.waits
 
 -- a stay, a mark or a wait stands in the column
 abbrev pub IsIn : Drawn → (column : ℕ) → Type 0

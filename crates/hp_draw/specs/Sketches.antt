@@ -10,10 +10,10 @@ use Rattle.hp_core.specs.State.{CoreState}
 use Rattle.hp_core.specs.Waiting.{WaitsFor}
 use Rattle.hp_text.specs.Columns.{column_of}
 use Rattle.hp_watch.specs.Happenings.{Happening, Happens, events_of, phase_in}
-use Rattle.hp_draw.specs.Following.{standing_after, stay_left, stay_in, mark_of, block_of, failure_of, numbers_of}
+use Rattle.hp_draw.specs.Following.{open_stay_after, stay_left, stay_in, mark_of, block_of, failure_of, numbers_of}
 use Rattle.hp_draw.specs.Lists.{listed}
 use Rattle.hp_draw.specs.Waits.{GoesOn, IsShown, waiting_tasks, waits_left}
-use Rattle.hp_draw.specs.declared.following.Standing.{Standing}
+use Rattle.hp_draw.specs.declared.following.OpenStay.{OpenStay}
 use Rattle.hp_draw.specs.declared.following.Stay.{Stay}
 use Rattle.hp_draw.specs.declared.following.Mark.{Mark}
 use Rattle.hp_draw.specs.declared.following.Numbers.{Numbers}
@@ -24,7 +24,7 @@ use Rattle.hp_draw.specs.declared.waits.Waiting.{Waiting}
 -- where the call of each column stands, the stays that ended, the marks, the counts behind each event, for whom each task waits, and
 -- the waits that ended
 pub record Drawn : Type 0 where
-  pub standings : List (Option Standing)
+  pub open_stays : List (Option OpenStay)
   pub stays : List Stay
   pub marks : List Mark
   pub numbers : List Numbers
@@ -34,7 +34,7 @@ pub record Drawn : Type 0 where
 abbrev pub seen : Sketch → Drawn
 seen s =
     record {
-      standings = s.standings.items;
+      open_stays = s.open_stays.items;
       stays = s.stays.items;
       marks = s.marks.items;
       numbers = s.numbers.items;
@@ -45,17 +45,17 @@ seen s =
 -- a pool of so many tasks of which nothing was seen
 abbrev pub nothing_drawn : (tasks : ℕ) → Drawn
 nothing_drawn tasks =
-    record { standings = replicate (tasks + 1) None; stays = []; marks = []; numbers = []; waiting = []; waits = [] }
+    record { open_stays = replicate (tasks + 1) None; stays = []; marks = []; numbers = []; waiting = []; waits = [] }
 
 -- for whom each task waits once the event of that moment has happened
 abbrev pub waiting_then : (at : ℕ) → Drawn → Happening → List (Option Waiting)
 waiting_then at d h = waiting_tasks h.core at h.holders d.waiting (config_of h.core).tasks
 
--- what is added by an event of that column, which led from one standing to another
-abbrev pub added : (at column : ℕ) → (before now : Option Standing) → Drawn → Happening → Drawn
+-- what is added by an event of that column, which led from one open stay to another
+abbrev pub added : (at column : ℕ) → (before now : Option OpenStay) → Drawn → Happening → Drawn
 added at column before now d h =
     record {
-      standings = slice_set d.standings column now;
+      open_stays = slice_set d.open_stays column now;
       stays = d.stays ++ listed (stay_left column at before now h.outcome);
       marks =
           ((d.marks ++ listed (mark_of column at h.event h.outcome)) ++ listed (block_of column at h.event h.outcome))
@@ -65,15 +65,15 @@ added at column before now d h =
       waits = d.waits ++ waits_left at d.waiting (waiting_then at d h) (length d.waiting);
     }
 
-abbrev pub after_in : (at column : ℕ) → (before : Option Standing) → Drawn → Happening → Drawn
+abbrev pub after_in : (at column : ℕ) → (before : Option OpenStay) → Drawn → Happening → Drawn
 after_in at column before d h =
-    added at column before (standing_after before at h.event h.outcome (phase_in h.core column)) d h
+    added at column before (open_stay_after before at h.event h.outcome (phase_in h.core column)) d h
 
 -- what is drawn once the event of that moment has happened
 unfoldable pub after : (at : ℕ) → Drawn → Happening → Drawn
 after at d h =
     after_in at (column_of (config_of h.core).tasks h.event)
-    (get_or d.standings (column_of (config_of h.core).tasks h.event) None) d h
+    (get_or d.open_stays (column_of (config_of h.core).tasks h.event) None) d h
 
 -- once all of them have, of which the first is that moment's
 unfoldable pub after_all : (at : ℕ) → Drawn → List Happening → Drawn
@@ -81,16 +81,16 @@ after_all at d [] = d
 after_all at d (h ∷ more) = after_all (suc at) (after at d h) more
 
 -- the stays of the calls that are in flight at the end, of the first n columns
-unfoldable pub stays_in : (at : ℕ) → List (Option Standing) → (n : ℕ) → List Stay
-stays_in at standings zero = []
-stays_in at standings (suc n) = stays_in at standings n ++ listed (stay_in n at (get_or standings n None))
+unfoldable pub stays_in : (at : ℕ) → List (Option OpenStay) → (n : ℕ) → List Stay
+stays_in at open_stays zero = []
+stays_in at open_stays (suc n) = stays_in at open_stays n ++ listed (stay_in n at (get_or open_stays n None))
 
 -- at the end: the stays of these calls, and the waits that go on
 abbrev pub ended : (at : ℕ) → Drawn → Drawn
 ended at d =
     record {
-      standings = d.standings;
-      stays = d.stays ++ stays_in at d.standings (length d.standings);
+      open_stays = d.open_stays;
+      stays = d.stays ++ stays_in at d.open_stays (length d.open_stays);
       marks = d.marks;
       numbers = d.numbers;
       waiting = d.waiting;

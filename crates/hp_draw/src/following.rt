@@ -2,7 +2,7 @@
 ghost use Rattle.std.specs.Prelude.{◌≡◌, ◌++◌, Bool, OnOk};
 ghost use Rattle.hp_core.specs.Readers.{quota_of};
 ghost use Rattle.hp_draw.specs.Following.{begun, block_of, counted_use, failure_of, has_moved, is_failure, mark_of, moved, next_of, numbers_of};
-ghost use Rattle.hp_draw.specs.Following.{sign_of, standing_after, stay_in, stay_left, stay_of};
+ghost use Rattle.hp_draw.specs.Following.{sign_of, open_stay_after, stay_in, stay_left, stay_of};
 ghost use Rattle.hp_draw.specs.Lists.{listed};
 
 use hp_base::{Answer, Event, File, Index, Op, Task, Vpn};
@@ -11,7 +11,7 @@ use std::alloc::AllocError;
 
 /// Where a call stands.
 #[derive(Clone, Copy)]
-pub(crate) struct Standing {
+pub(crate) struct OpenStay {
     pub(crate) op: Op,
     /// The moment at which the call began.
     pub(crate) begun: u32,
@@ -35,7 +35,7 @@ pub(crate) enum Next {
 #[derive(Clone, Copy)]
 pub(crate) struct Stay {
     pub(crate) column: usize,
-    pub(crate) standing: Standing,
+    pub(crate) open_stay: OpenStay,
     /// The moment that ends it.
     pub(crate) until: u32,
     pub(crate) next: Next,
@@ -79,11 +79,11 @@ pub(crate) struct Numbers {
 }
 
 /// Where a call stands that begins.
-fn begun(at: u32, event: &Event, phase: Option<Phase>) -> Option<Standing>
+fn begun(at: u32, event: &Event, phase: Option<Phase>) -> Option<OpenStay>
     ensures { result ≡ begun at event.now phase }
 {
     match (event, phase) {
-        (Event::Begin(_task, op), Some(phase)) => Some(Standing {
+        (Event::Begin(_task, op), Some(phase)) => Some(OpenStay {
             op: *op,
             begun: at,
             since: at,
@@ -94,28 +94,28 @@ fn begun(at: u32, event: &Event, phase: Option<Phase>) -> Option<Standing>
 }
 
 /// Where a call stands that moved.
-fn moved(before: &Option<Standing>, at: u32, phase: Phase) -> Option<Standing>
+fn moved(before: &Option<OpenStay>, at: u32, phase: Phase) -> Option<OpenStay>
     ensures { result ≡ moved before.now at phase }
 {
     match before {
-        Some(standing) => Some(Standing {
+        Some(open_stay) => Some(OpenStay {
             since: at,
             phase,
-            ..*standing
+            ..*open_stay
         }),
         None => None,
     }
 }
 
 /// Where a task's call stands after an event of it. `phase` is the one in which it stands then.
-pub(crate) fn standing_after(
-    before: &Option<Standing>,
+pub(crate) fn open_stay_after(
+    before: &Option<OpenStay>,
     at: u32,
     event: &Event,
     outcome: &Outcome,
     phase: Option<Phase>,
-) -> Option<Standing>
-    ensures { result ≡ standing_after before.now at event.now outcome.now phase }
+) -> Option<OpenStay>
+    ensures { result ≡ open_stay_after before.now at event.now outcome.now phase }
 {
     match outcome {
         Outcome::Begun => begun(at, event, phase),
@@ -138,11 +138,11 @@ fn next_of(outcome: &Outcome) -> Next
 }
 
 /// Whether it stands since another moment.
-fn has_moved(standing: &Standing, after: &Option<Standing>) -> bool
-    ensures { result ≡ has_moved standing.now after.now }
+fn has_moved(open_stay: &OpenStay, after: &Option<OpenStay>) -> bool
+    ensures { result ≡ has_moved open_stay.now after.now }
 {
     match after {
-        Some(other) => other.since != standing.since,
+        Some(other) => other.since != open_stay.since,
         None => true,
     }
 }
@@ -151,18 +151,18 @@ fn has_moved(standing: &Standing, after: &Option<Standing>) -> bool
 fn stay_of(
     column: usize,
     at: u32,
-    standing: &Standing,
-    after: &Option<Standing>,
+    open_stay: &OpenStay,
+    after: &Option<OpenStay>,
     outcome: &Outcome,
 ) -> Option<Stay>
-    ensures { result ≡ stay_of column at standing.now after.now outcome.now }
+    ensures { result ≡ stay_of column at open_stay.now after.now outcome.now }
 {
-    if !has_moved(standing, after) {
+    if !has_moved(open_stay, after) {
         return None;
     }
     Some(Stay {
         column,
-        standing: *standing,
+        open_stay: *open_stay,
         until: at,
         next: next_of(outcome),
     })
@@ -172,26 +172,26 @@ fn stay_of(
 pub(crate) fn stay_left(
     column: usize,
     at: u32,
-    before: &Option<Standing>,
-    after: &Option<Standing>,
+    before: &Option<OpenStay>,
+    after: &Option<OpenStay>,
     outcome: &Outcome,
 ) -> Option<Stay>
     ensures { result ≡ stay_left column at before.now after.now outcome.now }
 {
     match before {
-        Some(standing) => stay_of(column, at, standing, after, outcome),
+        Some(open_stay) => stay_of(column, at, open_stay, after, outcome),
         None => None,
     }
 }
 
 /// The stay of a call that is in flight at the end.
-pub(crate) fn stay_in(column: usize, at: u32, standing: Option<Standing>) -> Option<Stay>
-    ensures { result ≡ stay_in column at standing }
+pub(crate) fn stay_in(column: usize, at: u32, open_stay: Option<OpenStay>) -> Option<Stay>
+    ensures { result ≡ stay_in column at open_stay }
 {
-    match standing {
-        Some(standing) => Some(Stay {
+    match open_stay {
+        Some(open_stay) => Some(Stay {
             column,
-            standing,
+            open_stay,
             until: at,
             next: Next::InFlight,
         }),
@@ -204,7 +204,7 @@ pub(crate) fn add_stay(stays: &mut Vec<Stay>, stay: Option<Stay>) -> Result<(), 
     ensures { OnOk result (stays.new.items ≡ stays.old.items ++ listed stay) }
 {
     // The checker of borrows asks for a mention of the types that a stay holds.
-    let _inside: Option<(Standing, Next, Op, File, Index, Vpn, Task, Phase, Answer)> = None;
+    let _inside: Option<(OpenStay, Next, Op, File, Index, Vpn, Task, Phase, Answer)> = None;
     if let Some(stay) = stay {
         stays.push(stay)?;
     }

@@ -5,7 +5,7 @@ ghost use Rattle.hp_draw.specs.Lanes.{call_text, class_of, ended_words, label_of
 ghost use Rattle.hp_draw.specs.Lanes.{lanes_text, linux_text, name_of, phase_of, phase_text, place_of, stay_text, stood_text, told_text};
 ghost use Rattle.hp_draw.specs.Shapes.{texts, words_text};
 
-use crate::following::{Next, Standing, Stay};
+use crate::following::{Next, OpenStay, Stay};
 use crate::layout::{LEFT, Layout};
 use crate::shapes::{Place, push_box, push_upright, push_words};
 use hp_base::Op;
@@ -124,9 +124,9 @@ fn place_of(layout: &Layout, stay: &Stay) -> Place
     ensures { result ≡ place_of layout.now stay.now }
 {
     Place {
-        x: layout.x(stay.standing.since),
+        x: layout.x(stay.open_stay.since),
         y: layout.top(stay.column),
-        width: layout.width(stay.standing.since, stay.until),
+        width: layout.width(stay.open_stay.since, stay.until),
         height: u64::from(layout.tall),
     }
 }
@@ -144,15 +144,15 @@ fn push_ended(next: Next, until: u32, text: &mut String) -> Result<(), AllocErro
 
 /// Appends which call stands where.
 #[tactic(auto, unfolding(crate::specs::Lanes::stood_text))]
-fn push_stood(column: usize, standing: &Standing, text: &mut String) -> Result<(), AllocError>
-    ensures { OnOk result (string_bytes text.new ≡ string_bytes text.old ++ stood_text column standing.now) }
+fn push_stood(column: usize, open_stay: &OpenStay, text: &mut String) -> Result<(), AllocError>
+    ensures { OnOk result (string_bytes text.new ≡ string_bytes text.old ++ stood_text column open_stay.now) }
 {
-    let Standing {
+    let OpenStay {
         op,
         begun: _,
         since,
         phase,
-    } = *standing;
+    } = *open_stay;
     let line = u64::from(since) + 2;
     write!(
         text,
@@ -173,8 +173,8 @@ fn push_linux(op: &Op, phase: Phase, text: &mut String) -> Result<(), AllocError
 fn push_told(stay: &Stay, text: &mut String) -> Result<(), AllocError>
     ensures { OnOk result (string_bytes text.new ≡ string_bytes text.old ++ told_text stay.now) }
 {
-    push_stood(stay.column, &stay.standing, text)?;
-    push_linux(&stay.standing.op, stay.standing.phase, text)?;
+    push_stood(stay.column, &stay.open_stay, text)?;
+    push_linux(&stay.open_stay.op, stay.open_stay.phase, text)?;
     push_ended(stay.next, stay.until, text)?;
     text.push_str("</title>")
 }
@@ -189,8 +189,8 @@ fn push_phase(
 ) -> Result<(), AllocError>
     ensures { OnOk result (string_bytes text.new ≡ string_bytes text.old ++ phase_text (place_of layout.now stay.now) phase.now) }
 {
-    let width = layout.width(stay.standing.since, stay.until);
-    let x = layout.x(stay.standing.since) + width / 2;
+    let width = layout.width(stay.open_stay.since, stay.until);
+    let x = layout.x(stay.open_stay.since) + width / 2;
     let y = layout.top(stay.column) + u64::from(layout.tall) / 2;
     if width >= 58 {
         return push_words("in", x, y + 3, phase, text);
@@ -214,7 +214,7 @@ fn push_stay(layout: &Layout, stay: &Stay, text: &mut String) -> Result<(), Allo
     ensures { OnOk result (string_bytes text.new ≡ string_bytes text.old ++ stay_text layout.now stay.now) }
 {
     push_told(stay, text)?;
-    push_box(class_of(stay.standing.op), place_of(layout, stay), text)?;
+    push_box(class_of(stay.open_stay.op), place_of(layout, stay), text)?;
     text.push_str("</g>\n")
 }
 
@@ -241,7 +241,7 @@ fn push_phase_of(
 ) -> Result<(), AllocError>
     ensures { OnOk result (string_bytes text.new ≡ string_bytes text.old ++ phase_of layout.now stay.now) }
 {
-    lay_phase(stay.standing.phase, word)?;
+    lay_phase(stay.open_stay.phase, word)?;
     push_phase(layout, stay, word.as_str(), text)
 }
 
@@ -298,13 +298,13 @@ fn push_call(
 ) -> Result<(), AllocError>
     ensures { OnOk result (string_bytes text.new ≡ string_bytes text.old ++ call_text layout.now stay.now) }
 {
-    let room = layout.width(stay.standing.begun, stay.until) / LETTER;
-    let x = layout.x(stay.standing.begun) + 1;
+    let room = layout.width(stay.open_stay.begun, stay.until) / LETTER;
+    let x = layout.x(stay.open_stay.begun) + 1;
     let y = layout.top(stay.column).saturating_sub(4);
     match stay.next {
         Next::GoesOn => Ok(()),
         Next::Ended(_) | Next::InFlight => {
-            lay_label(stay.standing.op, stay.next, room, word)?;
+            lay_label(stay.open_stay.op, stay.next, room, word)?;
             push_over(x, y, room, word.as_str(), text)
         }
     }

@@ -82,14 +82,14 @@ fn appear(seen: &mut [bool], column: usize)
 /// Which columns have something in them.
 fn columns_seen(alloc: Global, sketch: &Sketch) -> Result<Vec<bool>, AllocError>
     requires { InColumns (seen sketch.now) }
-    ensures count { IfOk result (λ found. length found.items ≡ length sketch.now.standings.items) }
+    ensures count { IfOk result (λ found. length found.items ≡ length sketch.now.open_stays.items) }
     ensures stays { IfOk result (λ found. All (λ s. IsTrue (get_or found.items s.column false)) sketch.now.stays.items) }
     ensures marks { IfOk result (λ found. All (λ m. IsTrue (get_or found.items m.column false)) sketch.now.marks.items) }
     ensures waits { IfOk result (λ found. All (λ w. IsTrue (get_or found.items w.column false)) sketch.now.waits.ended.items) }
     ensures others { IfOk result (λ found. FindsNoOther (seen sketch.now) found.items) }
 {
     let mut seen = Vec::new(alloc);
-    for _column in 0..sketch.standings.len() {
+    for _column in 0..sketch.open_stays.len() {
         seen.push(false)?;
     }
     for stay in &sketch.stays {
@@ -163,7 +163,7 @@ pub(crate) fn lay_out(
 ) -> Result<Layout, AllocError>
     requires events { length events.now ≤ MOST_EVENTS }
     requires columns { InColumns (seen sketch.now) }
-    requires few { length sketch.now.standings.items ≤ 65 }
+    requires few { length sketch.now.open_stays.items ≤ 65 }
     ensures { IfOk result (HasPlaces quota (length events.now) (seen sketch.now)) }
 {
     let events = events.len() as u32;

@@ -6,8 +6,8 @@ ghost use Rattle.hp_draw.specs.Lists.{listed};
 ghost use Rattle.hp_draw.specs.Sketches.{IsDrawn, after, ended, nothing_drawn, seen, stays_in};
 
 use crate::following::{
-    Mark, Numbers, Standing, Stay, add_mark, add_stay, block_of, failure_of, mark_of, numbers_of,
-    standing_after, stay_in, stay_left,
+    Mark, Numbers, OpenStay, Stay, add_mark, add_stay, block_of, failure_of, mark_of, numbers_of,
+    open_stay_after, stay_in, stay_left,
 };
 use crate::waits::Waits;
 use hp_base::{Answer, Event, File, Index, Op, Task, Vpn};
@@ -20,7 +20,7 @@ use std::alloc::{AllocError, Global};
 #[derive(Drop)]
 pub(crate) struct Sketch {
     /// Where the call of each task stands; at 0 stands nothing.
-    pub(crate) standings: Vec<Option<Standing>>,
+    pub(crate) open_stays: Vec<Option<OpenStay>>,
     /// How long each call stood where, in the order in which that ended.
     pub(crate) stays: Vec<Stay>,
     /// What is marked, in the order of events.
@@ -32,17 +32,17 @@ pub(crate) struct Sketch {
 }
 
 /// A place for each column, in which nothing stands.
-fn no_standings(alloc: Global, tasks: u32) -> Result<Vec<Option<Standing>>, AllocError>
-    ensures { IfOk result (λ standings. standings.items ≡ replicate (tasks + 1) None) }
+fn no_open_stays(alloc: Global, tasks: u32) -> Result<Vec<Option<OpenStay>>, AllocError>
+    ensures { IfOk result (λ open_stays. open_stays.items ≡ replicate (tasks + 1) None) }
 {
-    // The checker of borrows asks for a mention of the types that a standing holds.
-    let _inside: Option<(Standing, Op, File, Index, Vpn, Task, Phase)> = None;
-    let mut standings = Vec::new(alloc);
-    standings.push(None)?;
+    // The checker of borrows asks for a mention of the types that an open stay holds.
+    let _inside: Option<(OpenStay, Op, File, Index, Vpn, Task, Phase)> = None;
+    let mut open_stays = Vec::new(alloc);
+    open_stays.push(None)?;
     for _task in 0..tasks {
-        standings.push(None)?;
+        open_stays.push(None)?;
     }
-    Ok(standings)
+    Ok(open_stays)
 }
 
 /// A pool of which nothing was seen.
@@ -50,7 +50,7 @@ fn empty_sketch(alloc: Global, tasks: u32) -> Result<Sketch, AllocError>
     ensures { IfOk result (λ sketch. seen sketch ≡ nothing_drawn tasks) }
 {
     Ok(Sketch {
-        standings: no_standings(alloc, tasks)?,
+        open_stays: no_open_stays(alloc, tasks)?,
         stays: Vec::new(alloc),
         marks: Vec::new(alloc),
         numbers: Vec::new(alloc),
@@ -59,22 +59,22 @@ fn empty_sketch(alloc: Global, tasks: u32) -> Result<Sketch, AllocError>
 }
 
 /// Where the call of a column stands.
-fn standing_at(standings: &[Option<Standing>], column: usize) -> Option<Standing>
-    ensures { result ≡ get_or standings.now column None }
+fn open_stay_at(open_stays: &[Option<OpenStay>], column: usize) -> Option<OpenStay>
+    ensures { result ≡ get_or open_stays.now column None }
 {
-    if column < standings.len() {
-        standings[column]
+    if column < open_stays.len() {
+        open_stays[column]
     } else {
         None
     }
 }
 
 /// Notes where the call of a column stands.
-fn set_standing(standings: &mut [Option<Standing>], column: usize, standing: Option<Standing>)
-    ensures { standings.new ≡ slice_set standings.old column standing }
+fn set_open_stay(open_stays: &mut [Option<OpenStay>], column: usize, open_stay: Option<OpenStay>)
+    ensures { open_stays.new ≡ slice_set open_stays.old column open_stay }
 {
-    if column < standings.len() {
-        standings[column] = standing;
+    if column < open_stays.len() {
+        open_stays[column] = open_stay;
     }
 }
 
@@ -99,13 +99,13 @@ fn add_event(
     let config = core.config();
     let number = column_of(config.tasks, event);
     let column = number as usize;
-    let before = standing_at(sketch.standings.as_slice(), column);
-    let now = standing_after(&before, at, event, outcome, phase_in(core, number));
+    let before = open_stay_at(sketch.open_stays.as_slice(), column);
+    let now = open_stay_after(&before, at, event, outcome, phase_in(core, number));
     add_stay(
         &mut sketch.stays,
         stay_left(column, at, &before, &now, outcome),
     )?;
-    set_standing(sketch.standings.as_mut_slice(), column, now);
+    set_open_stay(sketch.open_stays.as_mut_slice(), column, now);
     add_mark(&mut sketch.marks, mark_of(column, at, event, outcome))?;
     add_mark(&mut sketch.marks, block_of(column, at, event, outcome))?;
     add_mark(&mut sketch.marks, failure_of(column, at, outcome))?;
@@ -115,26 +115,26 @@ fn add_event(
 
 /// Adds the stay of the call of a column, if it is in flight at the end.
 fn add_stay_in(
-    standings: &[Option<Standing>],
+    open_stays: &[Option<OpenStay>],
     column: usize,
     at: u32,
     stays: &mut Vec<Stay>,
 ) -> Result<(), AllocError>
-    ensures { OnOk result (stays.new.items ≡ stays.old.items ++ listed (stay_in column at (get_or standings.now column None))) }
+    ensures { OnOk result (stays.new.items ≡ stays.old.items ++ listed (stay_in column at (get_or open_stays.now column None))) }
 {
-    add_stay(stays, stay_in(column, at, standing_at(standings, column)))
+    add_stay(stays, stay_in(column, at, open_stay_at(open_stays, column)))
 }
 
 /// Adds those of all columns.
 fn add_stays_in(
-    standings: &[Option<Standing>],
+    open_stays: &[Option<OpenStay>],
     at: u32,
     stays: &mut Vec<Stay>,
 ) -> Result<(), AllocError>
-    ensures { OnOk result (stays.new.items ≡ stays.old.items ++ stays_in at standings.now (length standings.now)) }
+    ensures { OnOk result (stays.new.items ≡ stays.old.items ++ stays_in at open_stays.now (length open_stays.now)) }
 {
-    for column in 0..standings.len() {
-        add_stay_in(standings, column, at, stays)?;
+    for column in 0..open_stays.len() {
+        add_stay_in(open_stays, column, at, stays)?;
     }
     Ok(())
 }
@@ -143,7 +143,7 @@ fn add_stays_in(
 fn end_sketch(sketch: &mut Sketch, at: u32) -> Result<(), AllocError>
     ensures { OnOk result (seen sketch.new ≡ ended at (seen sketch.old)) }
 {
-    add_stays_in(sketch.standings.as_slice(), at, &mut sketch.stays)?;
+    add_stays_in(sketch.open_stays.as_slice(), at, &mut sketch.stays)?;
     sketch.waits.end(at)
 }
 

@@ -5,37 +5,37 @@ use Rattle.hp_base.specs.Text.{sizes}
 use Rattle.hp_base.specs.declared.event.Event.{Event}
 use Rattle.hp_explore.specs.Schedule.{plan_of}
 use Rattle.hp_hunt.specs.Hunting.{RunMeets, RunMisses}
-use Rattle.hp_hunt.specs.declared.claims.Part.{Part}
+use Rattle.hp_hunt.specs.declared.claims.Batch.{Batch}
 use Rattle.hp_hunt.specs.declared.finding.Found.{Found}
 
 -- the runs are numbered in 32 bits, and go by the script's plan
-pub record IsPart (p : Part) : Type 0 where
+pub record IsBatch (p : Batch) : Type 0 where
   pub planned : p.plan.now ≡ plan_of p.script.now p.plan.now.deny p.plan.now.kill
   pub fits : p.first + p.count < 2 ^ 32
 
 -- the run at that place doesn't meet all conditions
-unfoldable pub MissesAt : Part → (place : ℕ) → Type 0
+unfoldable pub MissesAt : Batch → (place : ℕ) → Type 0
 MissesAt p place = RunMisses p.script.now p.seed p.plan.now.deny p.plan.now.kill p.conditions.now (p.first + place)
 
 -- it has these events, and meets them
-unfoldable pub MeetsAt : Part → (place : ℕ) → List Event → Type 0
+unfoldable pub MeetsAt : Batch → (place : ℕ) → List Event → Type 0
 MeetsAt p place events = RunMeets p.script.now p.seed p.plan.now.deny p.plan.now.kill p.conditions.now (p.first + place) events
 
 -- of the run at that place this is told: its events, a million at most, where it meets all conditions, and none where it misses one
-unfoldable pub TellsOf : Part → (place : ℕ) → Option (Vec Event) → Type 0
+unfoldable pub TellsOf : Batch → (place : ℕ) → Option (Vec Event) → Type 0
 TellsOf p place None = MissesAt p place
 TellsOf p place (Some events) = MeetsAt p place events.items × (length events.items ≤ 1000000)
 
 -- so many of the runs, from the first on, miss a condition
-abbrev pub FirstsMiss : Part → (count : ℕ) → Type 0
+abbrev pub FirstsMiss : Batch → (count : ℕ) → Type 0
 FirstsMiss p count = (k : ℕ) → k < count → MissesAt p k
 
 -- all of them do
-pub record AllMiss (p : Part) : Type 0 where
+pub record AllMiss (p : Batch) : Type 0 where
   pub each : FirstsMiss p p.count
 
 -- this is the first of the runs that meets all conditions
-pub record IsFirstOf (p : Part) (found : Found) : Type 0 where
+pub record IsFirstOf (p : Batch) (found : Found) : Type 0 where
   pub place : ℕ
   pub there : place < p.count
   pub number : found.run ≡ p.first + place

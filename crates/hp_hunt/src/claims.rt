@@ -3,7 +3,7 @@
 //! A counter that all workers share tells how many turns they made. It is a mere hint: no clause knows what it tells. A run that meets all
 //! conditions needn't be the first that does: the first is looked for at the end, in order.
 ghost use Rattle.std.specs.Prelude.{◌≡◌, ◌<◌, None, IfOk, IfSome, is_some};
-ghost use Rattle.hp_hunt.specs.Claims.{AllMiss, IsFirstOf, IsPart, TellsOf};
+ghost use Rattle.hp_hunt.specs.Claims.{AllMiss, IsFirstOf, IsBatch, TellsOf};
 
 use crate::condition::Condition;
 use crate::finding::{Found, explore_run};
@@ -17,7 +17,7 @@ use std::thread::Threads;
 
 /// Which runs are searched, and for what.
 #[derive(Clone, Copy, Drop)]
-pub(crate) struct Part<'a> {
+pub(crate) struct Batch<'a> {
     pub(crate) script: &'a Script,
     pub(crate) plan: &'a Plan,
     pub(crate) seed: u64,
@@ -29,31 +29,31 @@ pub(crate) struct Part<'a> {
 /// Room for the events of a run of so many turns is taken at once. A longer one takes more as it is made.
 const USUAL_TURNS: usize = 256;
 
-/// The search of a part, and a counter of the turns that are made.
+/// The search of a batch, and a counter of the turns that are made.
 #[derive(Clone, Copy, Drop)]
 struct Search<'a> {
-    part: Part<'a>,
+    batch: Batch<'a>,
     turns: &'a AtomicU64,
 }
 
 impl Work for Search<'_> {
     type Made = Option<Vec<Event>>;
 
-    ghost can_make = { λ search place. IsPart search.part × (place < search.part.count) };
+    ghost can_make = { λ search place. IsBatch search.batch × (place < search.batch.count) };
 
-    ghost is_right = { λ search place events. TellsOf search.part place events };
+    ghost is_right = { λ search place events. TellsOf search.batch place events };
 
     /// The events of the run at this place, where it meets all conditions.
     fn make(&self, alloc: Global, place: u32) -> Result<Option<Vec<Event>>, AllocError> {
-        let part = self.part;
+        let batch = self.batch;
         let mut events = Vec::with_capacity(alloc, USUAL_TURNS)?;
         let met = explore_run(
             alloc,
-            part.script,
-            part.plan,
-            part.seed,
-            part.first + place,
-            part.conditions,
+            batch.script,
+            batch.plan,
+            batch.seed,
+            batch.first + place,
+            batch.conditions,
             &mut events,
         )?;
         self.turns.fetch_add(events.len() as u64, Ordering::SeqCst);
@@ -69,24 +69,24 @@ impl Work for Search<'_> {
 }
 
 /// The first of these runs that meets all conditions, as a trace. The turns that are made are added to `turns`.
-pub(crate) fn search_part(
+pub(crate) fn search_batch(
     rt: &(impl Threads + Sync),
     alloc: Global,
-    part: Part,
+    batch: Batch,
     turns: &AtomicU64,
 ) -> Result<Option<Found>, AllocError>
-    requires { IsPart part }
-    ensures found { IfOk result (λ result. IfSome result (IsFirstOf part.entry)) }
-    ensures none { IfOk result (λ result. result ≡ None → AllMiss part.entry) }
+    requires { IsBatch batch }
+    ensures found { IfOk result (λ result. IfSome result (IsFirstOf batch.entry)) }
+    ensures none { IfOk result (λ result. result ≡ None → AllMiss batch.entry) }
 {
-    let search = Search { part, turns };
-    let mut slots = side_by_side(rt, alloc, &search, part.count)?;
-    for place in 0..part.count {
+    let search = Search { batch, turns };
+    let mut slots = side_by_side(rt, alloc, &search, batch.count)?;
+    for place in 0..batch.count {
         let slot = slots[place as usize].take();
         if let Some(events) = found_or_made(alloc, &search, place, slot)? {
-            let run = part.first + place;
+            let run = batch.first + place;
             let trace = Trace {
-                config: part.script.config,
+                config: batch.script.config,
                 events,
             };
             return Ok(Some(Found { run, trace }));

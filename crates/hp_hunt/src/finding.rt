@@ -3,7 +3,7 @@ ghost use Rattle.std.specs.Prelude.{◌≡◌, ◌≤◌, None, IfErr, IfOk, IfS
 ghost use Rattle.hp_explore.specs.Schedule.{plan_of};
 ghost use Rattle.hp_hunt.specs.Hunting.{IsFound, NoneMeets, RunMeets, RunMisses};
 
-use crate::claims::{Part, search_part};
+use crate::claims::{Batch, search_batch};
 use crate::condition::Condition;
 use crate::watching::Watches;
 use hp_base::{Answer, Event, Op};
@@ -87,7 +87,7 @@ pub fn find(
     let (mut first, mut size) = (0, FIRST_PART);
     while first < hunt.limit {
         let count = (hunt.limit - first).min(size);
-        let part = Part {
+        let batch = Batch {
             script,
             plan,
             seed: hunt.seed,
@@ -95,7 +95,7 @@ pub fn find(
             first,
             count,
         };
-        if let Some(found) = search_part(rt, alloc, part, &turns)? {
+        if let Some(found) = search_batch(rt, alloc, batch, &turns)? {
             return Ok(Some(found));
         }
         let made = turns.swap(0, Ordering::SeqCst);

@@ -194,16 +194,16 @@ only_tail phase (inl e) = absurd (no_delete phase e)
 only_tail phase (inr e) = ap is_tail e
 
 -- where the call stands: over, or in a phase before that
-data Standing (cut : Truncation) (c : Option Call) : Type 0 where
-  Over : CallCuts cut true c → Standing cut c
-  Holds : (phase : TruncatePhase) → c ≡ Some (call.Truncate phase) → Cutting cut phase → is_over phase ≡ false → Standing cut c
+data CutStage (cut : Truncation) (c : Option Call) : Type 0 where
+  Over : CallCuts cut true c → CutStage cut c
+  Holds : (phase : TruncatePhase) → c ≡ Some (call.Truncate phase) → Cutting cut phase → is_over phase ≡ false → CutStage cut c
 
 -- the truncation is on its way, or over
-where_it_stands : (cut : Truncation) (c : Option Call) → CallCuts cut false c → Standing cut c
+where_it_stands : (cut : Truncation) (c : Option Call) → CallCuts cut false c → CutStage cut c
 where_it_stands cut None h = Over tt
 where_it_stands cut (Some (call.Truncate phase)) h = by_end (is_over phase) refl
   where
-    by_end : (b : Bool) → is_over phase ≡ b → Standing cut (Some (call.Truncate phase))
+    by_end : (b : Bool) → is_over phase ≡ b → CutStage cut (Some (call.Truncate phase))
     by_end true e = Over (h.0, λ _. e)
     by_end false e = Holds phase refl h.0 e
 where_it_stands cut (Some (call.Touch p)) h = absurd h
@@ -237,7 +237,7 @@ kept_row : (s : State) (t : ℕ) (cut : Truncation) (i : ℕ) (event : Event) (o
     → s.reserved cut.file i ≡ true → (n.reserved cut.file i ≡ true) ⊎ CallCuts cut true (n.calls t)
 kept_row s t cut i event o n h quiet w row a = by_mark (n.reserved cut.file i) refl
   where
-    goes : n.reserved cut.file i ≡ false → Standing cut (s.calls t) → CallCuts cut true (n.calls t)
+    goes : n.reserved cut.file i ≡ false → CutStage cut (s.calls t) → CallCuts cut true (n.calls t)
     goes b (Over over) = cut_row s t cut true event o n h quiet over row
     goes b (Holds phase e cutting on) =
         let k = goes_under s event o n cut.file i h row a b in

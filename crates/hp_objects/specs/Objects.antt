@@ -2,7 +2,7 @@
 use Rattle.std.specs.Prelude.{◌++◌, ◌∷◌, [], ◌&&◌, ◌||◌, ◌==◌, ◌+◌, ℕ, Bool, List, Option, Some, None, codes, nat_le, not, if◌then◌else◌}
 use Rattle.std.specs.List.{filter, flat_map}
 use Rattle.hp_objects.specs.Places.{closing, command, is_number, opening, place_at, writing_of}
-use Rattle.hp_objects.specs.declared.objects.Held.{Held}
+use Rattle.hp_objects.specs.declared.objects.OpenLine.{OpenLine}
 use Rattle.hp_objects.specs.declared.objects.Objects.{Objects}
 use Rattle.hp_objects.specs.declared.places.Form.{Form}
 use Rattle.hp_objects.specs.declared.places.Form.TheVariants.{Nothing, Inside, Quoted, Valued, Named, Numbered}
@@ -40,7 +40,7 @@ pub record Line : Type 0 where
   pub next : Next
   pub word : List ℕ
 
-abbrev pub line_of : Held → Line
+abbrev pub line_of : OpenLine → Line
 line_of held = record { next = held.next; word = held.word.items }
 
 -- a line of which nothing has come

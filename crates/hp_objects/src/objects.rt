@@ -93,16 +93,16 @@ fn heading(alloc: Global, output: Output) -> Result<Vec<u8>, AllocError>
 
 /// What has come of a line, and may go on.
 #[derive(Drop)]
-pub struct Held {
+pub struct OpenLine {
     next: Next,
     word: Vec<u8>,
 }
 
-impl Held {
-    fn new(alloc: Global, next: Next) -> Held
+impl OpenLine {
+    fn new(alloc: Global, next: Next) -> OpenLine
         ensures { line_of result ≡ record { next = next; word = [] } }
     {
-        Held {
+        OpenLine {
             next,
             word: Vec::new(alloc),
         }
@@ -181,7 +181,7 @@ impl Held {
 pub struct Objects<W> {
     out: W,
     output: Option<Output>,
-    held: Held,
+    held: OpenLine,
     // Why such a write failed. Nothing more is written then.
     failed: Option<io::Error>,
     alloc: Global,
@@ -202,7 +202,7 @@ impl<W: Write> Objects<W> {
         Objects {
             out,
             output,
-            held: Held::new(alloc, next),
+            held: OpenLine::new(alloc, next),
             failed: None,
             alloc,
         }

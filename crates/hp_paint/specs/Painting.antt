@@ -2,7 +2,7 @@
 use Rattle.std.specs.Prelude.{◌++◌, ◌∷◌, [], ◌&&◌, ◌||◌, ◌==◌, ℕ, Bool, List, Option, Some, None, true, false, not}
 use Rattle.std.specs.Prelude.{length, nat_le, nat_lt, if◌then◌else◌}
 use Rattle.hp_paint.specs.Palettes.{shown}
-use Rattle.hp_paint.specs.declared.painting.Held.{Held}
+use Rattle.hp_paint.specs.declared.painting.OpenWord.{OpenWord}
 use Rattle.hp_paint.specs.declared.painting.Painted.{Painted}
 use Rattle.hp_paint.specs.declared.palette.Palette.{Palette}
 
@@ -15,8 +15,8 @@ pub data Open : Type 0 where
   Short : (word : List ℕ) → Open
   Long : Open
 
-abbrev pub held_of : Held → Open
-held_of held = if held.is_long then Long else Short held.bytes.items
+abbrev pub word_of : OpenWord → Open
+word_of held = if held.is_long then Long else Short held.bytes.items
 
 -- what is written of a byte behind it, and which word is open then
 abbrev pub passed : Palette → Open → ℕ → List ℕ

@@ -5,7 +5,7 @@ ghost use Rattle.std.specs.Prelude.{◌≡◌, ◌++◌, ◌∷◌, [], OnOk, If
 ghost use Rattle.std.specs.Io.{WritesAtMost};
 ghost use Rattle.std.specs.Io.KnownBytes.{Appends, Keeps, WriteAppends};
 ghost use Rattle.hp_paint.specs.Palettes.{shown};
-ghost use Rattle.hp_paint.specs.Painting.{Short, Long, closed, held_of, in_word, opened, open_behind, painted, painted_output, passed};
+ghost use Rattle.hp_paint.specs.Painting.{Short, Long, closed, word_of, in_word, opened, open_behind, painted, painted_output, passed};
 ghost use Rattle.hp_paint.specs.Painting.{unless_coloured};
 
 use crate::palette::{PLAIN, Palette, colour_of, sequence};
@@ -42,17 +42,17 @@ fn push_word(palette: Palette, word: &[u8], text: &mut Vec<u8>) -> Result<(), Al
 
 /// The last word of what was written, which may go on.
 #[derive(Drop)]
-pub struct Held {
+pub struct OpenWord {
     bytes: Vec<u8>,
     // It is longer than any coloured word, and none of it is held back.
     is_long: bool,
 }
 
-impl Held {
-    fn new(alloc: Global) -> Held
-        ensures { held_of result ≡ Short [] }
+impl OpenWord {
+    fn new(alloc: Global) -> OpenWord
+        ensures { word_of result ≡ Short [] }
     {
-        Held {
+        OpenWord {
             bytes: Vec::new(alloc),
             is_long: false,
         }
@@ -60,8 +60,8 @@ impl Held {
 
     // Appends the word, which ends here.
     fn end(&mut self, palette: Palette, text: &mut Vec<u8>) -> Result<(), AllocError>
-        ensures text { OnOk result (text.new.items ≡ text.old.items ++ closed palette (held_of self.old)) }
-        ensures held { OnOk result (held_of self.new ≡ Short []) }
+        ensures text { OnOk result (text.new.items ≡ text.old.items ++ closed palette (word_of self.old)) }
+        ensures held { OnOk result (word_of self.new ≡ Short []) }
     {
         if !self.is_long {
             push_word(palette, self.bytes.as_slice(), text)?;
@@ -74,7 +74,7 @@ impl Held {
     // Appends a word that has become too long for a colour, with its next byte.
     fn pass(&mut self, byte: u8, text: &mut Vec<u8>) -> Result<(), AllocError>
         ensures text { OnOk result (text.new.items ≡ text.old.items ++ self.old.bytes.items ++ byte ∷ []) }
-        ensures held { OnOk result (held_of self.new ≡ Long) }
+        ensures held { OnOk result (word_of self.new ≡ Long) }
     {
         text.extend_from_slice(self.bytes.as_slice())?;
         text.push(byte)?;
@@ -84,8 +84,8 @@ impl Held {
 
     // Takes a byte, and appends what it lets go.
     fn add(&mut self, palette: Palette, byte: u8, text: &mut Vec<u8>) -> Result<(), AllocError>
-        ensures text { OnOk result (text.new.items ≡ text.old.items ++ passed palette (held_of self.old) byte) }
-        ensures held { OnOk result (held_of self.new ≡ opened (held_of self.old) byte) }
+        ensures text { OnOk result (text.new.items ≡ text.old.items ++ passed palette (word_of self.old) byte) }
+        ensures held { OnOk result (word_of self.new ≡ opened (word_of self.old) byte) }
     {
         if !in_word(byte) {
             self.end(palette, text)?;
@@ -107,8 +107,8 @@ impl Held {
         piece: &[u8],
         text: &mut Vec<u8>,
     ) -> Result<(), AllocError>
-        ensures text { OnOk result (text.new.items ≡ text.old.items ++ painted palette (held_of self.old) piece.now) }
-        ensures held { OnOk result (held_of self.new ≡ open_behind (held_of self.old) piece.now) }
+        ensures text { OnOk result (text.new.items ≡ text.old.items ++ painted palette (word_of self.old) piece.now) }
+        ensures held { OnOk result (word_of self.new ≡ open_behind (word_of self.old) piece.now) }
     {
         for byte in piece {
             self.add(palette, *byte, text)?;
@@ -122,7 +122,7 @@ impl Held {
 pub struct Painted<W> {
     out: W,
     palette: Option<Palette>,
-    held: Held,
+    held: OpenWord,
     // Why a coloured write failed. Nothing more is written then.
     failed: Option<io::Error>,
     alloc: Global,
@@ -133,13 +133,13 @@ impl<W: Write> Painted<W> {
     pub fn new(alloc: Global, out: W, palette: Option<Palette>) -> Painted<W>
         ensures out { painted_output result ≡ out }
         ensures palette { result.palette ≡ palette }
-        ensures held { held_of result.held ≡ Short [] }
+        ensures held { word_of result.held ≡ Short [] }
         ensures failed { result.failed ≡ None }
     {
         Painted {
             out,
             palette,
-            held: Held::new(alloc),
+            held: OpenWord::new(alloc),
             failed: None,
             alloc,
         }
@@ -162,8 +162,8 @@ impl<W: Write> Painted<W> {
     // Writes a piece, but for a word that may go on.
     fn write_piece(&mut self, palette: Palette, piece: &[u8]) -> io::Result<()>
         ensures bytes { OnOk result (Appends (W.contents self.old.out) (W.contents self.new.out)
-            (painted palette (held_of self.old.held) piece.now)) }
-        ensures held { OnOk result (held_of self.new.held ≡ open_behind (held_of self.old.held) piece.now) }
+            (painted palette (word_of self.old.held) piece.now)) }
+        ensures held { OnOk result (word_of self.new.held ≡ open_behind (word_of self.old.held) piece.now) }
         ensures palette { self.new.palette ≡ self.old.palette }
         ensures failed { self.new.failed ≡ self.old.failed }
     {
@@ -175,8 +175,8 @@ impl<W: Write> Painted<W> {
     // Writes the word that is held back.
     fn write_held(&mut self, palette: Palette) -> io::Result<()>
         ensures bytes { OnOk result (Appends (W.contents self.old.out) (W.contents self.new.out)
-            (closed palette (held_of self.old.held))) }
-        ensures held { OnOk result (held_of self.new.held ≡ Short []) }
+            (closed palette (word_of self.old.held))) }
+        ensures held { OnOk result (word_of self.new.held ≡ Short []) }
         ensures palette { self.new.palette ≡ self.old.palette }
         ensures failed { self.new.failed ≡ self.old.failed }
     {
@@ -188,8 +188,8 @@ impl<W: Write> Painted<W> {
     // Writes the word that is held back, and flushes the output.
     fn flush_held(&mut self, palette: Palette) -> io::Result<()>
         ensures bytes { OnOk result (Appends (W.contents self.old.out) (W.contents self.new.out)
-            (closed palette (held_of self.old.held))) }
-        ensures held { OnOk result (held_of self.new.held ≡ Short []) }
+            (closed palette (word_of self.old.held))) }
+        ensures held { OnOk result (word_of self.new.held ≡ Short []) }
         ensures palette { self.new.palette ≡ self.old.palette }
         ensures failed { self.new.failed ≡ self.old.failed }
     {
@@ -206,9 +206,9 @@ impl<W: Write> Write for Painted<W> {
         ensures bytes { WriteAppends (unless_coloured self.old.palette (W.contents self.old.out))
             (unless_coloured self.new.palette (W.contents self.new.out)) result buf.now }
         ensures coloured { IfSome self.old.palette (λ palette. IfOk result (λ n. Appends (W.contents self.old.out)
-            (W.contents self.new.out) (painted palette (held_of self.old.held) (take n buf.now)))) }
+            (W.contents self.new.out) (painted palette (word_of self.old.held) (take n buf.now)))) }
         ensures held { IfSome self.old.palette (λ palette. IfOk result (λ n.
-            held_of self.new.held ≡ open_behind (held_of self.old.held) (take n buf.now))) }
+            word_of self.new.held ≡ open_behind (word_of self.old.held) (take n buf.now))) }
         ensures palette { self.new.palette ≡ self.old.palette }
         ensures fails { IfSome self.old.palette (λ palette. IfErr result (λ error. self.new.failed ≡ Some error)) }
         ensures succeeds { OnOk result (self.new.failed ≡ self.old.failed) }
@@ -235,8 +235,8 @@ impl<W: Write> Write for Painted<W> {
         ensures bytes { Keeps (unless_coloured self.old.palette (W.contents self.old.out))
             (unless_coloured self.new.palette (W.contents self.new.out)) }
         ensures coloured { IfSome self.old.palette (λ palette. OnOk result (Appends (W.contents self.old.out)
-            (W.contents self.new.out) (closed palette (held_of self.old.held)))) }
-        ensures held { IfSome self.old.palette (λ palette. OnOk result (held_of self.new.held ≡ Short [])) }
+            (W.contents self.new.out) (closed palette (word_of self.old.held)))) }
+        ensures held { IfSome self.old.palette (λ palette. OnOk result (word_of self.new.held ≡ Short [])) }
         ensures palette { self.new.palette ≡ self.old.palette }
         ensures fails { IfSome self.old.palette (λ palette. IfErr result (λ error. self.new.failed ≡ Some error)) }
         ensures succeeds { OnOk result (self.new.failed ≡ self.old.failed) }

@@ -6,14 +6,14 @@
 //! words of a command line.
 #![tactic(auto)]
 
-mod faults;
+mod errors;
 mod flushing;
 mod leaving;
 mod noted;
 mod replaying;
 mod tracing;
 
-pub use faults::{write_error, write_fault};
+pub use errors::{write_error, write_fault};
 pub use flushing::{flush_gathered, flush_plain, flushed_answer, gather};
 pub use leaving::{Heard, LEFT, has_left, is_left};
 pub use noted::Noted;

@@ -30,8 +30,8 @@ use Rattle.hp_race.specs.Racers.{HasRun, HasStrayed, HasStrayedIn, IsNew, are_go
 use Rattle.hp_core.specs.State.{CoreState}
 use Rattle.hp_race.specs.Parts.{call_range}
 use Rattle.hp_race.specs.declared.call_range.CallRange.{CallRange}
-use Rattle.hp_race.specs.declared.racer.Ending.{Ending}
-use Rattle.hp_race.specs.declared.racer.Ending.TheVariants.{Made, Killed, Astray, Late}
+use Rattle.hp_race.specs.declared.racer.RacerResult.{RacerResult}
+use Rattle.hp_race.specs.declared.racer.RacerResult.TheVariants.{Made, Killed, Astray, Late}
 
 -- a list that is no longer gained nothing
 gained_none : (task : ℕ) (op : Op) (old new : List Entry) → Gained old new (BegunThen task op (AllMoved task))
@@ -103,9 +103,9 @@ module _ (kill tasks task t : ℕ) (gone mortal may : Bool) (op : Op) (reply : R
   call_so : IsCall task op reply mid new
   call_so = subst (λ (n : ℕ). IsCall n op reply mid new) same call
 
-  pub call_made : may ≡ true → (ending : Ending) → ending ≡ met gone reply → CallEndsBy ending (nat_lt 0 kill) tasks task gone op old new
+  pub call_made : may ≡ true → (ending : RacerResult) → ending ≡ met gone reply → CallEndsBy ending (nat_lt 0 kill) tasks task gone op old new
   call_made good ending met_is =
-      subst (λ (e : Ending). CallEndsBy e (nat_lt 0 kill) tasks task gone op old new) (sym met_is)
+      subst (λ (e : RacerResult). CallEndsBy e (nat_lt 0 kill) tasks task gone op old new) (sym met_is)
       (met_so (nat_lt 0 kill) tasks task gone op reply old mid new (never_by kill old mid never) killed call_so (sym ends_so ∙ good))
 
   pub call_strayed : may ≡ false → CallStrayed (nat_lt 0 kill) tasks task gone op old new
@@ -166,7 +166,7 @@ but_more mortal script call_range xs ys seats had =
 
 -- what was found of the racers' seats so far, and of one more
 module _ (mortal : Bool) (script : Script) (call_range : CallRange) (tasks : List ℕ) (seats now : List SeatState) (s : SeatState)
-    (ending : Ending) (ran : HasRun mortal script call_range ending s) (added : now ≡ seats ++ s ∷ []) where
+    (ending : RacerResult) (ran : HasRun mortal script call_range ending s) (added : now ≡ seats ++ s ∷ []) where
   some_now : (P : SeatState → Type 0) → Any P seats → Any P now
   some_now P some = subst (λ (l : List SeatState). Any P l) (sym added) (any_before P seats (s ∷ []) some)
 
@@ -201,7 +201,7 @@ module _ (mortal : Bool) (script : Script) (call_range : CallRange) (tasks : Lis
     made_too is a_is l_is all_is =
         as_found [] a_is l_is (all_is ∙ sym (append-nil tasks))
         (gathered [] astray late had
-        (own_of [] false (λ no. absurd (false≢true no)) (subst (λ (e : Ending). HasRun mortal script call_range e s) is ran)))
+        (own_of [] false (λ no. absurd (false≢true no)) (subst (λ (e : RacerResult). HasRun mortal script call_range e s) is ran)))
 
     -- of which some were refused, and whose task is noted
     pub refused_too : (task : ℕ) → ending ≡ Killed → a ≡ astray → l ≡ late → task ≡ s.task → all ≡ tasks ++ task ∷ []
@@ -210,13 +210,13 @@ module _ (mortal : Bool) (script : Script) (call_range : CallRange) (tasks : Lis
         as_found (s.task ∷ []) a_is l_is (all_is ∙ ap (λ (t : ℕ). tasks ++ t ∷ []) own)
         (gathered (s.task ∷ []) astray late had
         (own_of (s.task ∷ []) true (λ yes. among_last tasks s.task)
-        (subst (λ (e : Ending). HasRun mortal script call_range e s) is ran)))
+        (subst (λ (e : RacerResult). HasRun mortal script call_range e s) is ran)))
 
     -- that strayed
     pub strayed_too : ending ≡ Astray → a ≡ true → AreFoundInAs mortal a l script call_range all now
     strayed_too is a_is =
         subst (λ (x : Bool). AreFoundInAs mortal x l script call_range all now) (sym a_is)
-        (one_now (HasStrayedIn mortal script call_range) (subst (λ (e : Ending). HasRun mortal script call_range e s) is ran))
+        (one_now (HasStrayedIn mortal script call_range) (subst (λ (e : RacerResult). HasRun mortal script call_range e s) is ran))
 
     -- that left some
     pub left_too : ending ≡ Late → a ≡ astray → l ≡ true → AreFoundInAs mortal a l script call_range all now
@@ -228,7 +228,7 @@ module _ (mortal : Bool) (script : Script) (call_range : CallRange) (tasks : Lis
         by true true same some = some_now (HasStrayedIn mortal script call_range) some
         by true false same some = absurd (true≢false same)
         by false was same some =
-            one_now (HasLeftIn mortal script call_range) (subst (λ (e : Ending). HasRun mortal script call_range e s) is ran)
+            one_now (HasLeftIn mortal script call_range) (subst (λ (e : RacerResult). HasRun mortal script call_range e s) is ran)
 
 -- a task among some, of which each is gone, is gone
 gone_among : (core : CoreState) (tasks : List ℕ) (task : ℕ) → are_gone_in core tasks ≡ true → is_among tasks task ≡ true
@@ -261,17 +261,17 @@ made_in_by_gone mortal script call_range core tasks seats gone had =
     (gone_among core tasks s.task gone) made) seats had
 
 -- a call that was made, each answered or refused
-pub made_by : (mortal : Bool) (tasks task t : ℕ) (gone : Bool) (op : Op) (ending : Ending) (old new : List Entry) → t ≡ task
+pub made_by : (mortal : Bool) (tasks task t : ℕ) (gone : Bool) (op : Op) (ending : RacerResult) (old new : List Entry) → t ≡ task
     → CallEndsBy ending mortal tasks t gone op old new → ending ≡ Made → CallMade mortal false tasks task gone op old new
 made_by mortal tasks task t gone op ending old new same call well =
     subst (λ (n : ℕ). CallMade mortal false tasks n gone op old new) same
-    (subst (λ (e : Ending). CallEndsBy e mortal tasks t gone op old new) well call)
+    (subst (λ (e : RacerResult). CallEndsBy e mortal tasks t gone op old new) well call)
 
-pub refused_by : (mortal : Bool) (tasks task t : ℕ) (gone : Bool) (op : Op) (ending : Ending) (old new : List Entry) → t ≡ task
+pub refused_by : (mortal : Bool) (tasks task t : ℕ) (gone : Bool) (op : Op) (ending : RacerResult) (old new : List Entry) → t ≡ task
     → CallEndsBy ending mortal tasks t gone op old new → ending ≡ Killed → CallMade mortal true tasks task gone op old new
 refused_by mortal tasks task t gone op ending old new same call well =
     subst (λ (n : ℕ). CallMade mortal true tasks n gone op old new) same
-    (subst (λ (e : Ending). CallEndsBy e mortal tasks t gone op old new) well call)
+    (subst (λ (e : RacerResult). CallEndsBy e mortal tasks t gone op old new) well call)
 
 -- the next of the calls that are left
 next_call : (calls : List Op) (k : ℕ) (op : Op) → k < length calls → op ≡ get_or calls k op → drop k calls ≡ op ∷ drop (k + 1) calls
@@ -327,9 +327,9 @@ pub made_all : (mortal refused : Bool) (tasks task : ℕ) (had gone : Bool) (cal
     → length calls ≤ k
     → ((may : Bool) → (refused ≡ true → may ≡ true) → (end : List Entry) → CallsMade mortal may tasks task gone (drop k calls) new end
     → CallsMade mortal may tasks task had calls start end)
-    → (ending : Ending) → ending ≡ ending_of refused → EndsBy ending mortal tasks task had calls start new
+    → (ending : RacerResult) → ending ≡ ending_of refused → EndsBy ending mortal tasks task had calls start new
 made_all mortal refused tasks task had gone calls k start new past before ending is =
-    subst (λ (e : Ending). EndsBy e mortal tasks task had calls start new) (sym is) (by refused made)
+    subst (λ (e : RacerResult). EndsBy e mortal tasks task had calls start new) (sym is) (by refused made)
   where
     made : (may : Bool) → (refused ≡ true → may ≡ true) → CallsMade mortal may tasks task had calls start new
     made may so =
@@ -351,7 +351,7 @@ left_here mortal tasks task had gone calls k op start old below is before =
     (subst (λ (ops : List Op). CallsLeft mortal tasks task gone ops old old) (sym (next_call calls k op below is)) (inl refl))
 
 -- or that strays
-pub strayed_here : (mortal : Bool) (tasks task t : ℕ) (had gone : Bool) (calls : List Op) (k : ℕ) (op : Op) (ending : Ending)
+pub strayed_here : (mortal : Bool) (tasks task t : ℕ) (had gone : Bool) (calls : List Op) (k : ℕ) (op : Op) (ending : RacerResult)
     (start old new : List Entry)
     → k < length calls → op ≡ get_or calls k op → t ≡ task
     → ((end : List Entry) → CallsStrayed mortal tasks task gone (drop k calls) old end → CallsStrayed mortal tasks task had calls start end)
@@ -359,7 +359,7 @@ pub strayed_here : (mortal : Bool) (tasks task t : ℕ) (had gone : Bool) (calls
 strayed_here mortal tasks task t had gone calls k op ending start old new below is same h call bad =
     let own : CallStrayed mortal tasks task gone op old new =
     subst (λ (n : ℕ). CallStrayed mortal tasks n gone op old new) same
-    (subst (λ (e : Ending). CallEndsBy e mortal tasks t gone op old new) bad call) in
+    (subst (λ (e : RacerResult). CallEndsBy e mortal tasks t gone op old new) bad call) in
     h new (subst (λ (ops : List Op). CallsStrayed mortal tasks task gone ops old new) (sym (next_call calls k op below is)) (inl own))
 
 -- a list of which a property holds, taken apart

@@ -25,8 +25,8 @@ use Rattle.hp_shared.specs.declared.fault.CloseFault.TheVariants as fault
 use Rattle.hp_race.specs.Racers.{AreFoundIn, AreFoundInAs, HasMadeInBut, IsNew, are_gone_in}
 use Rattle.hp_race.specs.declared.racer.Found.{Found}
 use Rattle.hp_race.proofs.Making.{made_in_by_gone}
-use Rattle.hp_race.specs.Parts.{AreParts, GoesOn, IsAgain, IsPart, IsToTheEnd, IsToldInParts, IsToldInPartsAs}
-use Rattle.hp_race.specs.Parts.{IsVerdictOnParts, Part, call_range}
+use Rattle.hp_race.specs.Parts.{AreRaceParts, GoesOn, IsAgain, IsRacePart, IsToTheEnd, IsToldInParts, IsToldInPartsAs}
+use Rattle.hp_race.specs.Parts.{IsVerdictOnParts, RacePart, call_range}
 use Rattle.hp_race.specs.Races.{Counts, IsToldOfRefused}
 use Rattle.hp_race.specs.declared.line.Race.{Race}
 use Rattle.hp_race.specs.declared.line.Verdict.{Verdict}
@@ -95,7 +95,7 @@ pub part_made : (mortal : Bool) (script : Script) (calls : CallRange) (position 
     → are_gone_in new found.refused.items ≡ true
     → AllSeated script.config.tasks seats → length seats ≡ script.config.tasks
     → ((es : List Entry) × Interleaves position es (lists_of seats) × Follows start es new × (now ≡ position + length es))
-    → (part : Part) × IsPart mortal script calls position start part × (now ≡ position + length part.entries) × (new ≡ part.core)
+    → (part : RacePart) × IsRacePart mortal script calls position start part × (now ≡ position + length part.entries) × (new ≡ part.core)
 part_made mortal script calls position now start new found seats is_made well so had gone seated count cut = (
   record { seats = seats; entries = cut.0; core = new },
   record {
@@ -118,28 +118,28 @@ part_made mortal script calls position now start new found seats is_made well so
 
 -- whatever parts come behind one more come behind those before it
 pub parts_on : (mortal : Bool) (script : Script) (most from next position now begun : ℕ) (start core new : CoreState)
-    → ((parts : List Part) (entries : ℕ) (end : CoreState) → AreParts mortal script most from position core parts entries end
-    → (all : List Part) × AreParts mortal script most 0 begun start all entries end)
-    → ((part : Part) × IsPart mortal script (call_range from most) position core part × (now ≡ position + length part.entries)
+    → ((parts : List RacePart) (entries : ℕ) (end : CoreState) → AreRaceParts mortal script most from position core parts entries end
+    → (all : List RacePart) × AreRaceParts mortal script most 0 begun start all entries end)
+    → ((part : RacePart) × IsRacePart mortal script (call_range from most) position core part × (now ≡ position + length part.entries)
     × (new ≡ part.core))
     → next ≡ from + most
-    → (parts : List Part) (entries : ℕ) (end : CoreState) → AreParts mortal script most next now new parts entries end
-    → (all : List Part) × AreParts mortal script most 0 begun start all entries end
+    → (parts : List RacePart) (entries : ℕ) (end : CoreState) → AreRaceParts mortal script most next now new parts entries end
+    → (all : List RacePart) × AreRaceParts mortal script most 0 begun start all entries end
 parts_on mortal script most from next position now begun start core new before made is parts entries end rest =
-    let part : Part = made.0 in
+    let part : RacePart = made.0 in
     before (part ∷ parts) entries end (
       made.1,
-      subst (λ (c : CoreState). AreParts mortal script most (from + most) (position + length part.entries) c parts entries end) made.3
-          (subst (λ (n : ℕ). AreParts mortal script most (from + most) n new parts entries end) made.2
-          (subst (λ (n : ℕ). AreParts mortal script most n now new parts entries end) is rest)),
+      subst (λ (c : CoreState). AreRaceParts mortal script most (from + most) (position + length part.entries) c parts entries end) made.3
+          (subst (λ (n : ℕ). AreRaceParts mortal script most (from + most) n new parts entries end) made.2
+          (subst (λ (n : ℕ). AreRaceParts mortal script most n now new parts entries end) is rest)),
     )
 
 -- and where none comes, those before are all
 pub parts_end : (mortal : Bool) (script : Script) (most from longest position begun : ℕ) (start core : CoreState)
-    → ((parts : List Part) (entries : ℕ) (end : CoreState) → AreParts mortal script most from position core parts entries end
-    → (all : List Part) × AreParts mortal script most 0 begun start all entries end)
+    → ((parts : List RacePart) (entries : ℕ) (end : CoreState) → AreRaceParts mortal script most from position core parts entries end
+    → (all : List RacePart) × AreRaceParts mortal script most 0 begun start all entries end)
     → IsToTheEnd script longest → longest ≤ from
-    → (all : List Part) × AreParts mortal script most 0 begun start all position core
+    → (all : List RacePart) × AreRaceParts mortal script most 0 begun start all position core
 parts_end mortal script most from longest position begun start core before short over =
     before [] position core ((λ task least last. omega (arith, over, short task least last)), refl, refl)
 
@@ -148,7 +148,7 @@ told_parts_as : (mortal : Bool) (script : Script) (most : ℕ) (made : Bool) (op
     (journal : List Entry)
     (seats : List SeatState) (race : Race) (v : Verdict)
     → IsOpening script.config opened → begun ≡ 0
-    → (made ≡ true → (parts : List Part) × AreParts mortal script most 0 begun opened parts entries core)
+    → (made ≡ true → (parts : List RacePart) × AreRaceParts mortal script most 0 begun opened parts entries core)
     → ClosesPoolOf script.config seats pool first journal → told ≡ first + length journal → Counts race told pool
     → IsVerdictOnParts made (IsAgain entries core first journal pool) v → IsToldInPartsAs mortal script most v race
 told_parts_as mortal script most made opened core pool begun entries first told journal seats race Closed opening new parts closes all
@@ -162,8 +162,8 @@ told_parts_as mortal script most made opened core pool begun entries first told 
       parts = are.0;
       core = core;
       are =
-          subst (λ (n : ℕ). AreParts mortal script most 0 0 opened are.0 n core) many
-          (subst (λ (n : ℕ). AreParts mortal script most 0 n opened are.0 entries core) new are.1);
+          subst (λ (n : ℕ). AreRaceParts mortal script most 0 0 opened are.0 n core) many
+          (subst (λ (n : ℕ). AreRaceParts mortal script most 0 n opened are.0 entries core) new are.1);
       counts = (
         refl,
         counts.1 ∙ ap (λ (t : Tally). t.free) is.1.2,
@@ -190,7 +190,7 @@ pub told_parts : (mortal : Bool) (script : Script) (most : ℕ) (made : Bool) (o
     (journal : List Entry)
     (seats : List SeatState) (race : Race)
     → IsOpening script.config opened → begun ≡ 0
-    → (made ≡ true → (parts : List Part) × AreParts mortal script most 0 begun opened parts entries core)
+    → (made ≡ true → (parts : List RacePart) × AreRaceParts mortal script most 0 begun opened parts entries core)
     → (config : Config) → config ≡ script.config → ClosesPoolOf config seats pool first journal
     → told ≡ first + length journal → Counts race told pool
     → IsVerdictOnParts made (IsAgain entries core first journal pool) race.verdict → IsToldInParts mortal script most race

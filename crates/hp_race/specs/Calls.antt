@@ -14,8 +14,8 @@ use Rattle.hp_shared.specs.declared.fault.Reply.TheVariants.{Ended, Refused}
 use Rattle.hp_shared.specs.Journal.{entry}
 use Rattle.hp_shared.specs.Replies.{IsCall}
 use Rattle.hp_race.specs.declared.chances.Chances.{Chances}
-use Rattle.hp_race.specs.declared.racer.Ending.{Ending}
-use Rattle.hp_race.specs.declared.racer.Ending.TheVariants.{Made, Killed, Astray, Late, Memory}
+use Rattle.hp_race.specs.declared.racer.RacerResult.{RacerResult}
+use Rattle.hp_race.specs.declared.racer.RacerResult.TheVariants.{Made, Killed, Astray, Late, Memory}
 
 -- whether tasks may be killed in a race with these chances
 abbrev pub is_mortal : Chances → Bool
@@ -35,13 +35,13 @@ may_end mortal gone (Ended answer) before after = not gone
 may_end mortal gone (Refused why) before after = (mortal || gone) && (is_not_alive why && after == before)
 
 -- what comes of a call that ended as it may: where the task hadn't exited and the call was refused, the task is dead or killed
-abbrev pub met : (gone : Bool) → Reply → Ending
+abbrev pub met : (gone : Bool) → Reply → RacerResult
 met true reply = Made
 met false (Ended answer) = Made
 met false (Refused why) = Killed
 
 -- what comes of all calls, of which some were refused so, or none
-abbrev pub ending_of : (refused : Bool) → Ending
+abbrev pub ending_of : (refused : Bool) → RacerResult
 ending_of refused = if refused then Killed else Made
 
 -- what an answered call makes of the list: a begin, moves, and the end with an answer; nothing where the task has exited
@@ -77,7 +77,7 @@ CallStrayed false tasks task gone op old new = CallFailed false task gone op old
 CallStrayed true tasks task gone op old new = (mid : List Entry) × MayKill tasks old mid × CallFailed true task gone op mid new
 
 -- what came of the call
-abbrev pub CallEndsBy : Ending → (mortal : Bool) → (tasks task : ℕ) → (gone : Bool) → Op → List Entry → List Entry → Type 0
+abbrev pub CallEndsBy : RacerResult → (mortal : Bool) → (tasks task : ℕ) → (gone : Bool) → Op → List Entry → List Entry → Type 0
 CallEndsBy Made mortal tasks task gone op old new = CallMade mortal false tasks task gone op old new
 CallEndsBy Killed mortal tasks task gone op old new = CallMade mortal true tasks task gone op old new
 CallEndsBy Astray mortal tasks task gone op old new = CallStrayed mortal tasks task gone op old new
@@ -112,7 +112,7 @@ abbrev pub CallsLeft : (mortal : Bool) → (tasks task : ℕ) → (gone : Bool) 
 CallsLeft mortal tasks task gone ops old new = CallsUpTo IsLeft mortal tasks task gone ops old new
 
 -- what came of the calls
-abbrev pub EndsBy : Ending → (mortal : Bool) → (tasks task : ℕ) → (gone : Bool) → List Op → List Entry → List Entry → Type 0
+abbrev pub EndsBy : RacerResult → (mortal : Bool) → (tasks task : ℕ) → (gone : Bool) → List Op → List Entry → List Entry → Type 0
 EndsBy Made mortal tasks task gone ops old new = CallsMade mortal false tasks task gone ops old new
 EndsBy Killed mortal tasks task gone ops old new = CallsMade mortal true tasks task gone ops old new
 EndsBy Astray mortal tasks task gone ops old new = CallsStrayed mortal tasks task gone ops old new

@@ -18,7 +18,7 @@ use Rattle.hp_race.specs.declared.line.Verdict.TheVariants.{Closed, Disagree, As
 use Rattle.hp_race.specs.declared.call_range.CallRange.{CallRange}
 
 -- A part of a race: the seats with what each made in it, the entries of the journal, and the core to which they led
-pub record Part : Type 0 where
+pub record RacePart : Type 0 where
   pub seats : List SeatState
   pub entries : List Entry
   pub core : CoreState
@@ -28,7 +28,7 @@ call_range from most = record { from = from; most = most }
 
 -- Each task made a range of the script's calls of it, and the entries, whose positions begin with this one, are an interleaving
 -- of the lists of one seat a task and lead from that core to the part's, in which no task is alive of which calls were refused
-pub record IsPart (mortal : Bool) (script : Script) (calls : CallRange) (position : ℕ) (start : CoreState) (part : Part) : Type 0 where
+pub record IsRacePart (mortal : Bool) (script : Script) (calls : CallRange) (position : ℕ) (start : CoreState) (part : RacePart) : Type 0 where
   pub seated : AllSeated script.config.tasks part.seats
   pub count : length part.seats ≡ script.config.tasks
   pub made : All (HasMadeInBy mortal script calls part.core) part.seats
@@ -42,12 +42,12 @@ IsToTheEnd script from =
 
 -- Parts of at most so many calls a task, from these calls, this position and this core on: each begins where the one before ended,
 -- and behind the last no call is left, so many entries were made, and the core is this one
-abbrev pub AreParts : (mortal : Bool) → Script → (most from position : ℕ) → (start : CoreState) → List Part → (entries : ℕ) → CoreState
+abbrev pub AreRaceParts : (mortal : Bool) → Script → (most from position : ℕ) → (start : CoreState) → List RacePart → (entries : ℕ) → CoreState
     → Type 0
-AreParts mortal script most from position start [] entries core = IsToTheEnd script from × (entries ≡ position) × (core ≡ start)
-AreParts mortal script most from position start (part ∷ parts) entries core =
-    IsPart mortal script (call_range from most) position start part
-    × AreParts mortal script most (from + most) (position + length part.entries) part.core parts entries core
+AreRaceParts mortal script most from position start [] entries core = IsToTheEnd script from × (entries ≡ position) × (core ≡ start)
+AreRaceParts mortal script most from position start (part ∷ parts) entries core =
+    IsRacePart mortal script (call_range from most) position start part
+    × AreRaceParts mortal script most (from + most) (position + length part.entries) part.core parts entries core
 
 -- the entries begin at this position and lead from one core to the other, and so many were made by then
 abbrev pub GoesOn : (position : ℕ) → CoreState → (first : ℕ) → List Entry → (entries : ℕ) → CoreState → Type 0
@@ -71,9 +71,9 @@ IsVerdictOnParts made same Late = ⊥
 pub record IsClosedInParts (mortal : Bool) (script : Script) (most : ℕ) (race : Race) : Type 0 where
   pub opened : CoreState
   pub opening : IsOpening script.config opened
-  pub parts : List Part
+  pub parts : List RacePart
   pub core : CoreState
-  pub are : AreParts mortal script most 0 0 opened parts race.entries core
+  pub are : AreRaceParts mortal script most 0 0 opened parts race.entries core
   pub counts : Counts race race.entries core
   pub seats : List SeatState
   pub pool : CoreState

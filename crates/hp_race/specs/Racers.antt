@@ -10,7 +10,7 @@ use Rattle.hp_machine.specs.State.{is_alive}
 use Rattle.hp_core.specs.Readers.{config_of, life_of}
 use Rattle.hp_core.specs.State.{CoreState}
 use Rattle.hp_race.specs.Calls.{CallsLeft, CallsMade, CallsStrayed, EndsBy}
-use Rattle.hp_race.specs.declared.racer.Ending.{Ending}
+use Rattle.hp_race.specs.declared.racer.RacerResult.{RacerResult}
 use Rattle.hp_race.specs.declared.racer.Found.{Found}
 use Rattle.hp_race.specs.declared.call_range.CallRange.{CallRange}
 
@@ -116,7 +116,7 @@ abbrev pub IsSet : Script → List Op → SeatState → Type 0
 IsSet script calls s = (calls ≡ calls_of script.calls.items s.task) × IsNew s
 
 -- what came of a racer's calls, which are a range of the script's
-abbrev pub HasRun : (mortal : Bool) → Script → CallRange → Ending → SeatState → Type 0
+abbrev pub HasRun : (mortal : Bool) → Script → CallRange → RacerResult → SeatState → Type 0
 HasRun mortal script call_range ending s =
     let calls = calls_of script.calls.items s.task in
     EndsBy ending mortal script.config.tasks s.task (is_gone call_range calls) (calls_in call_range calls) [] s.list

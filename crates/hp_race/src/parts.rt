@@ -7,7 +7,7 @@ ghost use Rattle.hp_shared.specs.Seats.{lists_of};
 ghost use Rattle.hp_shared.specs.declared.entry.Entry.{Entry};
 ghost use Rattle.hp_race.specs.Calls.{is_mortal};
 ghost use Rattle.hp_race.specs.Racers.{IsNew};
-ghost use Rattle.hp_race.specs.Parts.{AreParts, IsPart, IsToTheEnd, IsToldInParts, Part as PartOf};
+ghost use Rattle.hp_race.specs.Parts.{AreRaceParts, IsRacePart, IsToTheEnd, IsToldInParts, RacePart};
 
 use crate::again::Again;
 use crate::call_range::CallRange;
@@ -85,8 +85,8 @@ fn make_parts<L: Ledger + Send + Sync, R: Threads + Wait + Sync>(
     requires new { All IsNew seats.items }
     requires count { length seats.items ≡ script.now.config.tasks }
     ensures count { IfOk result (λ ran. length ran.1.items ≡ script.now.config.tasks) }
-    ensures parts { IfOk result (λ ran. ran.0 ≡ true → (parts : List PartOf)
-        × AreParts (is_mortal track.now.chances) script.now most 0 again.old.entries again.old.core parts
+    ensures parts { IfOk result (λ ran. ran.0 ≡ true → (parts : List RacePart)
+        × AreRaceParts (is_mortal track.now.chances) script.now most 0 again.old.entries again.old.core parts
         again.new.entries again.new.core) }
 {
     let longest = longest(alloc, script)?;
@@ -118,8 +118,8 @@ fn make_part<L: Ledger + Send + Sync, R: Threads + Wait + Sync>(
     requires count { length seats.items ≡ script.now.config.tasks }
     ensures count { IfOk result (λ ran. length ran.1.items ≡ script.now.config.tasks) }
     ensures new { IfOk result (λ ran. ran.0 ≡ true → All IsNew ran.1.items) }
-    ensures part { IfOk result (λ ran. ran.0 ≡ true → (part : PartOf)
-        × IsPart (is_mortal track.now.chances) script.now call_range again.old.entries again.old.core part
+    ensures part { IfOk result (λ ran. ran.0 ≡ true → (part : RacePart)
+        × IsRacePart (is_mortal track.now.chances) script.now call_range again.old.entries again.old.core part
         × (again.new.entries ≡ again.old.entries + length part.entries)
         × (again.new.core ≡ part.core)) }
 {

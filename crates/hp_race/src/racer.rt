@@ -23,7 +23,7 @@ use std::thread::Threads;
 
 /// What came of a task's calls.
 #[derive(Clone, Copy, Debug, PartialEq, Eq)]
-pub(crate) enum Ending {
+pub(crate) enum RacerResult {
     /// All were made, and each ended as it may.
     Made,
     /// The same, but some were refused, as those of a dead or killed task are.
@@ -75,7 +75,7 @@ pub(crate) struct Ran<L: Ledger> {
 pub(crate) struct Racer<L: Ledger> {
     pub(crate) seat: Seat<L>,
     pub(crate) calls: Vec<Op>,
-    pub(crate) ending: Ending,
+    pub(crate) ending: RacerResult,
 }
 
 // Whether one of the calls is an exit. (A function of another crate that is passed by name gets no proof here.)
@@ -98,23 +98,23 @@ fn may_end(mortal: bool, gone: bool, reply: &Reply, before: usize, after: usize)
 }
 
 // What came of a call that ended as it may.
-fn met(gone: bool, reply: &Reply) -> Ending
+fn met(gone: bool, reply: &Reply) -> RacerResult
     ensures { result ≡ met gone reply.now }
 {
     match reply {
-        Reply::Refused(_) if !gone => Ending::Killed,
-        _ => Ending::Made,
+        Reply::Refused(_) if !gone => RacerResult::Killed,
+        _ => RacerResult::Made,
     }
 }
 
 // What came of calls of which some were refused, or none.
-fn ending_of(refused: bool) -> Ending
+fn ending_of(refused: bool) -> RacerResult
     ensures { result ≡ ending_of refused }
 {
     if refused {
-        Ending::Killed
+        RacerResult::Killed
     } else {
-        Ending::Made
+        RacerResult::Made
     }
 }
 
@@ -143,21 +143,21 @@ fn make_call<L: Ledger, R: Wait>(
     seat: &mut Seat<L>,
     gone: bool,
     op: Op,
-) -> Ending
+) -> RacerResult
     ensures task { seat.new.task ≡ seat.old.task }
     ensures call { CallEndsBy result (nat_lt 0 course.now.draws.kill) course.now.config.tasks seat.old.task gone op
         seat.old.list seat.new.list }
 {
     if strike(rt, hold, course, seat).is_err() {
-        return Ending::Memory;
+        return RacerResult::Memory;
     }
     let before = seat.list().len();
     let Ok(reply) = call(hold, rt, seat, op, course) else {
-        return Ending::Memory;
+        return RacerResult::Memory;
     };
     let after = seat.list().len();
     if !may_end(course.draws.is_mortal(), gone, &reply, before, after) {
-        return Ending::Astray;
+        return RacerResult::Astray;
     }
     met(gone, &reply)
 }
@@ -170,7 +170,7 @@ fn make_calls<L: Ledger, R: Wait>(
     seat: &mut Seat<L>,
     had_exited: bool,
     calls: &[Op],
-) -> Ending
+) -> RacerResult
     ensures task { seat.new.task ≡ seat.old.task }
     ensures calls { EndsBy result (nat_lt 0 course.now.draws.kill) course.now.config.tasks seat.old.task had_exited calls.now
         seat.old.list seat.new.list }
@@ -179,14 +179,14 @@ fn make_calls<L: Ledger, R: Wait>(
     let mut refused = false;
     for op in calls {
         if !course.come(rt) {
-            return Ending::Late;
+            return RacerResult::Late;
         }
         match make_call(rt, hold, course, seat, gone, *op) {
-            Ending::Made => {}
-            Ending::Killed => refused = true,
-            Ending::Astray => return Ending::Astray,
-            Ending::Late => return Ending::Late,
-            Ending::Memory => return Ending::Memory,
+            RacerResult::Made => {}
+            RacerResult::Killed => refused = true,
+            RacerResult::Astray => return RacerResult::Astray,
+            RacerResult::Late => return RacerResult::Late,
+            RacerResult::Memory => return RacerResult::Memory,
         }
         course.pass(rt);
         gone |= is_exit(op);
@@ -244,7 +244,7 @@ fn set_racers<L: Ledger>(
         if calls.len() <= call_range.from {
             idle.push(seat)?;
         } else {
-            let ending = Ending::Memory;
+            let ending = RacerResult::Memory;
             racers.push(Racer {
                 seat,
                 calls,
@@ -325,11 +325,11 @@ fn gather_seats<L: Ledger>(
             ending,
         } = racer;
         match ending {
-            Ending::Made => {}
-            Ending::Killed => refused.push(seat.task())?,
-            Ending::Astray => astray = true,
-            Ending::Late => late = true,
-            Ending::Memory => return Err(AllocError),
+            RacerResult::Made => {}
+            RacerResult::Killed => refused.push(seat.task())?,
+            RacerResult::Astray => astray = true,
+            RacerResult::Late => late = true,
+            RacerResult::Memory => return Err(AllocError),
         }
         seats.push(seat)?;
     }

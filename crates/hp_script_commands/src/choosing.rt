@@ -57,7 +57,7 @@ fn choose_ending<R: Source, W: Sink>(
     reader: &mut R,
     writer: &mut W,
     cut: &mut Option<u32>,
-    faults: &mut impl Report,
+    errors: &mut impl Report,
 ) -> Result<bool, ReplayFault>
     ensures ok { IfOk result (λ done. MatchBool done
         (Chooses choice (R.remaining reader.old) (R.remaining reader.new) (W.contents writer.old) (W.contents writer.new))
@@ -71,7 +71,7 @@ fn choose_ending<R: Source, W: Sink>(
     ensures writes { OnOk result (W.failures writer.new ≡ W.failures writer.old) }
 {
     *cut = None;
-    let (script, every) = all_endings(rt, alloc, choice.bounds, reader, faults)?;
+    let (script, every) = all_endings(rt, alloc, choice.bounds, reader, errors)?;
     match every {
         EndingRows::Whole(rows) => write_row(alloc, script.config, rows, choice.run, writer),
         EndingRows::Cut { turns } => {
@@ -90,7 +90,7 @@ pub fn run_schedule_every<R: Source, W: Write + Drop>(
     reader: &mut R,
     out: W,
     cut: &mut Option<u32>,
-    faults: &mut impl Report,
+    errors: &mut impl Report,
 ) -> (Result<bool, ReplayFault>, Option<W>)
     ensures { AnsweredChoice choice cut.new result.0 (R.remaining reader.old) (R.remaining reader.new) (R.failures reader.old)
         (R.failures reader.new) (W.contents out) (option_map W.contents result.1) }
@@ -98,7 +98,7 @@ pub fn run_schedule_every<R: Source, W: Write + Drop>(
     let Ok(mut sink) = gather(alloc, out) else {
         return (Err(ReplayFault::Memory), None);
     };
-    let done = choose_ending(rt, alloc, choice, reader, &mut sink, cut, faults);
+    let done = choose_ending(rt, alloc, choice, reader, &mut sink, cut, errors);
     let (flushed, out) = flush_gathered(sink);
     (flushed_answer(done, flushed), Some(out))
 }

@@ -21,7 +21,7 @@ fn explore_script<R: Source, W: Sink>(
     exploration: Exploration,
     reader: &mut R,
     writer: &mut W,
-    faults: &mut impl Write,
+    errors: &mut impl Write,
 ) -> Result<bool, ReplayFault>
     ensures ok { IfOk result (λ finished. Explores exploration finished (R.remaining reader.old) (R.remaining reader.new)
         (W.contents writer.old) (W.contents writer.new)) }
@@ -32,7 +32,7 @@ fn explore_script<R: Source, W: Sink>(
     ensures reads { TellsReads result (R.failures reader.old) (R.failures reader.new) }
 {
     let script = read_any_script(alloc, reader)?;
-    tell_ignored(&script, faults);
+    tell_ignored(&script, errors);
     write_explored(rt, alloc, &script, exploration, writer)
 }
 
@@ -43,13 +43,13 @@ pub fn run_explore<R: Source, W: Write + Drop>(
     exploration: Exploration,
     reader: &mut R,
     out: W,
-    faults: &mut impl Write,
+    errors: &mut impl Write,
 ) -> (Result<bool, ReplayFault>, Option<W>)
     ensures { AnsweredExplore exploration result.0 (R.remaining reader.old) (R.remaining reader.new) (R.failures reader.old)
         (R.failures reader.new) (W.contents out) (option_map W.contents result.1) }
 {
     let mut sink = Watched::new(out);
-    let explored = explore_script(rt, alloc, exploration, reader, &mut sink, faults);
+    let explored = explore_script(rt, alloc, exploration, reader, &mut sink, errors);
     let (flushed, out) = flush_plain(sink);
     (flushed_answer(explored, flushed), Some(out))
 }

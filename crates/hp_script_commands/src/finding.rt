@@ -23,18 +23,18 @@ use std::thread::Threads;
 use std::time::Clock;
 
 // Writes the line that says which run was found.
-fn tell_run(hunt: Hunt, run: u32, faults: &mut impl Write) -> io::Result<()> {
+fn tell_run(hunt: Hunt, run: u32, errors: &mut impl Write) -> io::Result<()> {
     let seed = hunt.seed.wrapping_add(u64::from(run));
     write!(
-        faults,
+        errors,
         "hugepool: run {run} (seed {seed}) is the first to meet all conditions\n"
     )
 }
 
 // Says which run was found, once its trace is written and flushed. Whether it can be said changes nothing.
-fn tell_found(hunt: Hunt, run: Option<u32>, flushed: &io::Result<()>, faults: &mut impl Write) {
+fn tell_found(hunt: Hunt, run: Option<u32>, flushed: &io::Result<()>, errors: &mut impl Write) {
     if let (Ok(()), Some(run)) = (flushed, run) {
-        let _ = tell_run(hunt, run, faults);
+        let _ = tell_run(hunt, run, errors);
     }
 }
 
@@ -66,7 +66,7 @@ fn find_script<R: Source, W: Sink>(
     reader: &mut R,
     writer: &mut W,
     run: &mut Option<u32>,
-    faults: &mut impl Report,
+    errors: &mut impl Report,
 ) -> Result<bool, ReplayFault>
     ensures ok { IfOk result (λ met. MatchBool met
         (Finds search.now (R.remaining reader.old) (R.remaining reader.new) (W.contents writer.old) (W.contents writer.new))
@@ -80,8 +80,8 @@ fn find_script<R: Source, W: Sink>(
     ensures writes { OnOk result (W.failures writer.new ≡ W.failures writer.old) }
 {
     let script = read_any_script(alloc, reader)?;
-    tell_ignored(&script, faults);
-    let mut progress = ProgressLine::new(rt, faults);
+    tell_ignored(&script, errors);
+    let mut progress = ProgressLine::new(rt, errors);
     let found = find(
         rt,
         alloc,
@@ -104,7 +104,7 @@ pub fn run_find<R: Source, W: Write + Drop>(
     search: &Search,
     reader: &mut R,
     out: W,
-    faults: &mut impl Report,
+    errors: &mut impl Report,
 ) -> (Result<bool, ReplayFault>, Option<W>)
     ensures { AnsweredFind search.now result.0 (R.remaining reader.old) (R.remaining reader.new) (R.failures reader.old)
         (R.failures reader.new) (W.contents out) (option_map W.contents result.1) }
@@ -113,8 +113,8 @@ pub fn run_find<R: Source, W: Write + Drop>(
         return (Err(ReplayFault::Memory), None);
     };
     let mut run = None;
-    let met = find_script(rt, alloc, search, reader, &mut sink, &mut run, faults);
+    let met = find_script(rt, alloc, search, reader, &mut sink, &mut run, errors);
     let (flushed, out) = flush_gathered(sink);
-    tell_found(search.hunt, run, &flushed, faults);
+    tell_found(search.hunt, run, &flushed, errors);
     (flushed_answer(met, flushed), Some(out))
 }

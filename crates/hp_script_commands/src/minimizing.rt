@@ -38,7 +38,7 @@ fn minimize_trace<R: Source, W: Sink>(
     conditions: &[Condition],
     reader: &mut R,
     writer: &mut W,
-    faults: &mut impl Report,
+    errors: &mut impl Report,
 ) -> Result<bool, ReplayFault>
     ensures ok { IfOk result (λ met. MatchBool met
         (Minimizes conditions.now (R.remaining reader.old) (R.remaining reader.new) (W.contents writer.old) (W.contents writer.new))
@@ -52,7 +52,7 @@ fn minimize_trace<R: Source, W: Sink>(
     ensures writes { OnOk result (W.failures writer.new ≡ W.failures writer.old) }
 {
     let trace = read_trace(alloc, reader)?;
-    let mut progress = ProgressLine::new(rt, faults);
+    let mut progress = ProgressLine::new(rt, errors);
     let small = minimize(alloc, &trace, conditions, &mut progress);
     progress.end();
     match small? {
@@ -68,7 +68,7 @@ pub fn run_minimize<R: Source, W: Write + Drop>(
     conditions: &[Condition],
     reader: &mut R,
     out: W,
-    faults: &mut impl Report,
+    errors: &mut impl Report,
 ) -> (Result<bool, ReplayFault>, Option<W>)
     ensures { AnsweredMinimize conditions.now result.0 (R.remaining reader.old) (R.remaining reader.new) (R.failures reader.old)
         (R.failures reader.new) (W.contents out) (option_map W.contents result.1) }
@@ -76,7 +76,7 @@ pub fn run_minimize<R: Source, W: Write + Drop>(
     let Ok(mut sink) = gather(alloc, out) else {
         return (Err(ReplayFault::Memory), None);
     };
-    let met = minimize_trace(rt, alloc, conditions, reader, &mut sink, faults);
+    let met = minimize_trace(rt, alloc, conditions, reader, &mut sink, errors);
     let (flushed, out) = flush_gathered(sink);
     (flushed_answer(met, flushed), Some(out))
 }

@@ -6,7 +6,7 @@ use std::io;
 use std::io::{IsTerminal, Stderr, Write};
 use std::time::{Clock, Duration, Instant};
 
-/// Where faults are written, and how far a search is.
+/// Where errors are written, and how far a search is.
 pub trait Report: Write {
     /// Whether somebody watches what is written.
     fn is_watched(&self) -> bool;
@@ -29,7 +29,7 @@ const OFTEN: u64 = 100;
 #[derive(Drop)]
 pub(crate) struct ProgressLine<'a, C: Clock, F: Report> {
     clock: &'a C,
-    faults: &'a mut F,
+    errors: &'a mut F,
     began: Option<Instant>,
     is_shown: bool,
     // when it is said next how many events are left, in milliseconds
@@ -40,7 +40,7 @@ pub(crate) struct ProgressLine<'a, C: Clock, F: Report> {
 
 // Writes how many runs were explored in so many milliseconds, and how long the others will take.
 fn write_progress(
-    faults: &mut impl Write,
+    errors: &mut impl Write,
     runs: u32,
     all: u32,
     milliseconds: u64,
@@ -50,27 +50,27 @@ fn write_progress(
     let rate = explored.saturating_mul(1000) / milliseconds.max(1);
     let seconds = left.saturating_mul(milliseconds / 1000 + 1) / explored;
     write!(
-        faults,
+        errors,
         "\r\x1b[Khugepool: {runs} of {all} runs, {rate} a second, "
     )?;
     if seconds < 120 {
-        write!(faults, "{seconds} s left")
+        write!(errors, "{seconds} s left")
     } else {
-        write!(faults, "{} min left", seconds / 60)
+        write!(errors, "{} min left", seconds / 60)
     }
 }
 
 impl<'a, C: Clock, F: Report> ProgressLine<'a, C, F> {
     /// For a search that begins now.
-    pub(crate) fn new(clock: &'a C, faults: &'a mut F) -> ProgressLine<'a, C, F> {
-        let began = if faults.is_watched() {
+    pub(crate) fn new(clock: &'a C, errors: &'a mut F) -> ProgressLine<'a, C, F> {
+        let began = if errors.is_watched() {
             Instant::now(clock).ok()
         } else {
             None
         };
         ProgressLine {
             clock,
-            faults,
+            errors,
             began,
             is_shown: false,
             next: SOON,
@@ -88,21 +88,21 @@ impl<'a, C: Clock, F: Report> ProgressLine<'a, C, F> {
     /// Erases the line.
     pub(crate) fn end(self) {
         if self.is_shown {
-            let _ = self.faults.write_all(b"\r\x1b[K");
+            let _ = self.errors.write_all(b"\r\x1b[K");
         }
     }
 }
 
 // Writes how far a search among all schedules is.
 fn write_layer(
-    faults: &mut impl Write,
+    errors: &mut impl Write,
     turns: u32,
     states: u64,
     rate: u64,
     mebibytes: u64,
 ) -> io::Result<()> {
     write!(
-        faults,
+        errors,
         "\r\x1b[Khugepool: {turns} turns, {states} states, {rate} a second, {mebibytes} MiB"
     )
 }
@@ -115,7 +115,7 @@ impl<'a, C: Clock, F: Report> layers::Progress for ProgressLine<'a, C, F> {
         };
         if milliseconds >= SOON {
             let rate = self.states.saturating_mul(1000) / milliseconds.max(1);
-            self.is_shown = write_layer(self.faults, turns, self.states, rate, bytes >> 20).is_ok();
+            self.is_shown = write_layer(self.errors, turns, self.states, rate, bytes >> 20).is_ok();
         }
     }
 }
@@ -126,15 +126,15 @@ impl<'a, C: Clock, F: Report> Progress for ProgressLine<'a, C, F> {
             return;
         };
         if milliseconds >= SOON && runs < all {
-            self.is_shown = write_progress(self.faults, runs, all, milliseconds).is_ok();
+            self.is_shown = write_progress(self.errors, runs, all, milliseconds).is_ok();
         }
     }
 }
 
 // Writes how many events are left after so many seconds.
-fn write_left(faults: &mut impl Write, events: usize, seconds: u64) -> io::Result<()> {
+fn write_left(errors: &mut impl Write, events: usize, seconds: u64) -> io::Result<()> {
     write!(
-        faults,
+        errors,
         "\r\x1b[Khugepool: {events} events left, {seconds} s"
     )
 }
@@ -145,7 +145,7 @@ impl<'a, C: Clock, F: Report> Shrinking for ProgressLine<'a, C, F> {
             return;
         };
         if milliseconds >= self.next {
-            self.is_shown = write_left(self.faults, events, milliseconds / 1000).is_ok();
+            self.is_shown = write_left(self.errors, events, milliseconds / 1000).is_ok();
             self.next = milliseconds.saturating_add(OFTEN);
         }
     }

@@ -63,7 +63,7 @@ fn race_script<R: Source, W: Sink>(
     racing: Racing,
     reader: &mut R,
     writer: &mut W,
-    faults: &mut impl Write,
+    errors: &mut impl Write,
 ) -> Result<bool, ReplayFault>
     ensures ok { IfOk result (λ closed. Races racing closed (R.remaining reader.old) (R.remaining reader.new)
         (W.contents writer.old) (W.contents writer.new)) }
@@ -74,7 +74,7 @@ fn race_script<R: Source, W: Sink>(
     ensures reads { TellsReads result (R.failures reader.old) (R.failures reader.new) }
 {
     let script = read_raced(alloc, racing, reader)?;
-    tell_ignored(&script, faults);
+    tell_ignored(&script, errors);
     write_racing(rt, alloc, &script, racing, writer)
 }
 
@@ -85,13 +85,13 @@ pub fn run_race<R: Source, W: Write + Drop>(
     racing: Racing,
     reader: &mut R,
     out: W,
-    faults: &mut impl Write,
+    errors: &mut impl Write,
 ) -> (Result<bool, ReplayFault>, Option<W>)
     ensures { AnsweredRace racing result.0 (R.remaining reader.old) (R.remaining reader.new) (R.failures reader.old)
         (R.failures reader.new) (W.contents out) (option_map W.contents result.1) }
 {
     let mut sink = Watched::new(out);
-    let raced = race_script(rt, alloc, racing, reader, &mut sink, faults);
+    let raced = race_script(rt, alloc, racing, reader, &mut sink, errors);
     let (flushed, out) = flush_plain(sink);
     (flushed_answer(raced, flushed), Some(out))
 }

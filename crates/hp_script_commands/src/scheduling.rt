@@ -14,11 +14,11 @@ use std::alloc::Global;
 use std::io::Write;
 
 // Says of a script which tasks' lines are ignored, where some are. Whether it can be said changes nothing.
-pub(crate) fn tell_ignored(script: &Script, faults: &mut impl Write) {
+pub(crate) fn tell_ignored(script: &Script, errors: &mut impl Write) {
     let tasks = script.config.tasks;
     if script.calls.iter().any(|call| call.0.number() > tasks) {
         let _ = write!(
-            faults,
+            errors,
             "hugepool: lines of tasks above {tasks} are ignored: the pool has no such tasks\n"
         );
     }
@@ -30,7 +30,7 @@ fn schedule_script<R: Source, W: Sink>(
     scheduling: Scheduling,
     reader: &mut R,
     writer: &mut W,
-    faults: &mut impl Write,
+    errors: &mut impl Write,
 ) -> Result<(), ReplayFault>
     ensures ok { OnOk result (Schedules scheduling (R.remaining reader.old) (R.remaining reader.new)
         (W.contents writer.old) (W.contents writer.new)) }
@@ -43,7 +43,7 @@ fn schedule_script<R: Source, W: Sink>(
 {
     let Scheduling { seed, run, chances } = scheduling;
     let script = read_any_script(alloc, reader)?;
-    tell_ignored(&script, faults);
+    tell_ignored(&script, errors);
     let first = seed.wrapping_add(u64::from(run));
     let trace = schedule(alloc, &script, first, chances.deny, chances.kill)?;
     write_trace(alloc, &trace, writer)
@@ -55,7 +55,7 @@ pub fn run_schedule<R: Source, W: Write + Drop>(
     scheduling: Scheduling,
     reader: &mut R,
     out: W,
-    faults: &mut impl Write,
+    errors: &mut impl Write,
 ) -> (Result<(), ReplayFault>, Option<W>)
     ensures { AnsweredSchedule scheduling result.0 (R.remaining reader.old) (R.remaining reader.new) (R.failures reader.old)
         (R.failures reader.new) (W.contents out) (option_map W.contents result.1) }
@@ -63,7 +63,7 @@ pub fn run_schedule<R: Source, W: Write + Drop>(
     let Ok(mut sink) = gather(alloc, out) else {
         return (Err(ReplayFault::Memory), None);
     };
-    let written = schedule_script(alloc, scheduling, reader, &mut sink, faults);
+    let written = schedule_script(alloc, scheduling, reader, &mut sink, errors);
     let (flushed, out) = flush_gathered(sink);
     (flushed_answer(written, flushed), Some(out))
 }

@@ -52,7 +52,7 @@ fn find_in_all<R: Source, W: Sink>(
     reader: &mut R,
     writer: &mut W,
     cut: &mut Option<u32>,
-    faults: &mut impl Report,
+    errors: &mut impl Report,
 ) -> Result<bool, ReplayFault>
     ensures ok { IfOk result (λ met. MatchBool met
         (FindsEvery search.now (R.remaining reader.old) (R.remaining reader.new) (W.contents writer.old) (W.contents writer.new))
@@ -67,7 +67,7 @@ fn find_in_all<R: Source, W: Sink>(
 {
     *cut = None;
     let script = read_any_script(alloc, reader)?;
-    tell_ignored(&script, faults);
+    tell_ignored(&script, errors);
     let budget = Budget {
         denials: search.denials,
         kills: search.kills,
@@ -78,7 +78,7 @@ fn find_in_all<R: Source, W: Sink>(
         bytes: search.memory,
     };
     let conditions = search.conditions.as_slice();
-    let mut progress = ProgressLine::new(rt, faults);
+    let mut progress = ProgressLine::new(rt, errors);
     let every = find_every(
         rt,
         alloc,
@@ -108,7 +108,7 @@ pub fn run_find_every<R: Source, W: Write + Drop>(
     reader: &mut R,
     out: W,
     cut: &mut Option<u32>,
-    faults: &mut impl Report,
+    errors: &mut impl Report,
 ) -> (Result<bool, ReplayFault>, Option<W>)
     ensures { AnsweredEvery search.now cut.new result.0 (R.remaining reader.old) (R.remaining reader.new) (R.failures reader.old)
         (R.failures reader.new) (W.contents out) (option_map W.contents result.1) }
@@ -116,7 +116,7 @@ pub fn run_find_every<R: Source, W: Write + Drop>(
     let Ok(mut sink) = gather(alloc, out) else {
         return (Err(ReplayFault::Memory), None);
     };
-    let met = find_in_all(rt, alloc, search, reader, &mut sink, cut, faults);
+    let met = find_in_all(rt, alloc, search, reader, &mut sink, cut, errors);
     let (flushed, out) = flush_gathered(sink);
     (flushed_answer(met, flushed), Some(out))
 }

@@ -24,7 +24,7 @@ fn summarize_script<R: Source, W: Sink>(
     survey: Survey,
     reader: &mut R,
     writer: &mut W,
-    faults: &mut impl Report,
+    errors: &mut impl Report,
 ) -> Result<bool, ReplayFault>
     ensures ok { IfOk result (λ finished. SumsUp survey finished (R.remaining reader.old) (R.remaining reader.new)
         (W.contents writer.old) (W.contents writer.new)) }
@@ -35,8 +35,8 @@ fn summarize_script<R: Source, W: Sink>(
     ensures reads { TellsReads result (R.failures reader.old) (R.failures reader.new) }
 {
     let script = read_any_script(alloc, reader)?;
-    tell_ignored(&script, faults);
-    let mut progress = ProgressLine::new(rt, faults);
+    tell_ignored(&script, errors);
+    let mut progress = ProgressLine::new(rt, errors);
     let summed = summarize(rt, alloc, &script, survey, &mut progress);
     progress.end();
     let summary = summed?;
@@ -51,13 +51,13 @@ pub fn run_summarize<R: Source, W: Write + Drop>(
     survey: Survey,
     reader: &mut R,
     out: W,
-    faults: &mut impl Report,
+    errors: &mut impl Report,
 ) -> (Result<bool, ReplayFault>, Option<W>)
     ensures { AnsweredSummary survey result.0 (R.remaining reader.old) (R.remaining reader.new) (R.failures reader.old)
         (R.failures reader.new) (W.contents out) (option_map W.contents result.1) }
 {
     let mut sink = Watched::new(out);
-    let summed = summarize_script(rt, alloc, survey, reader, &mut sink, faults);
+    let summed = summarize_script(rt, alloc, survey, reader, &mut sink, errors);
     let (flushed, out) = flush_plain(sink);
     (flushed_answer(summed, flushed), Some(out))
 }

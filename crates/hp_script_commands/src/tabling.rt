@@ -97,7 +97,7 @@ pub(crate) fn all_endings<R: Source>(
     alloc: Global,
     bounds: EveryBounds,
     reader: &mut R,
-    faults: &mut impl Report,
+    errors: &mut impl Report,
 ) -> Result<(Script, EndingRows), ReplayFault>
     ensures script { IfOk result (λ r. ReadsScript (R.remaining reader.old) (R.remaining reader.new) (sizes r.0.config) r.0.calls.items
         r.0.waits.items) }
@@ -107,7 +107,7 @@ pub(crate) fn all_endings<R: Source>(
     ensures reads { TellsReads result (R.failures reader.old) (R.failures reader.new) }
 {
     let script = read_any_script(alloc, reader)?;
-    tell_ignored(&script, faults);
+    tell_ignored(&script, errors);
     let budget = Budget {
         denials: bounds.denials,
         kills: bounds.kills,
@@ -117,7 +117,7 @@ pub(crate) fn all_endings<R: Source>(
         states: bounds.states as usize,
         bytes: bounds.memory,
     };
-    let mut progress = ProgressLine::new(rt, faults);
+    let mut progress = ProgressLine::new(rt, errors);
     let every = explore_every(rt, alloc, &script, budget, limits, &mut progress);
     progress.end();
     Ok((script, every?))
@@ -132,7 +132,7 @@ fn tabulate_script<R: Source, W: Sink>(
     reader: &mut R,
     writer: &mut W,
     cut: &mut Option<u32>,
-    faults: &mut impl Report,
+    errors: &mut impl Report,
 ) -> Result<bool, ReplayFault>
     ensures ok { IfOk result (λ done. MatchBool done
         (Tabulates bounds (R.remaining reader.old) (R.remaining reader.new) (W.contents writer.old) (W.contents writer.new))
@@ -145,7 +145,7 @@ fn tabulate_script<R: Source, W: Sink>(
     ensures writes { OnOk result (W.failures writer.new ≡ W.failures writer.old) }
 {
     *cut = None;
-    let (_script, every) = all_endings(rt, alloc, bounds, reader, faults)?;
+    let (_script, every) = all_endings(rt, alloc, bounds, reader, errors)?;
     match every {
         EndingRows::Whole(rows) => write_table(alloc, rows.as_slice(), writer),
         EndingRows::Cut { turns } => {
@@ -164,7 +164,7 @@ pub fn run_explore_every<R: Source, W: Write + Drop>(
     reader: &mut R,
     out: W,
     cut: &mut Option<u32>,
-    faults: &mut impl Report,
+    errors: &mut impl Report,
 ) -> (Result<bool, ReplayFault>, Option<W>)
     ensures { AnsweredTable bounds cut.new result.0 (R.remaining reader.old) (R.remaining reader.new) (R.failures reader.old)
         (R.failures reader.new) (W.contents out) (option_map W.contents result.1) }
@@ -172,7 +172,7 @@ pub fn run_explore_every<R: Source, W: Write + Drop>(
     let Ok(mut sink) = gather(alloc, out) else {
         return (Err(ReplayFault::Memory), None);
     };
-    let done = tabulate_script(rt, alloc, bounds, reader, &mut sink, cut, faults);
+    let done = tabulate_script(rt, alloc, bounds, reader, &mut sink, cut, errors);
     let (flushed, out) = flush_gathered(sink);
     (flushed_answer(done, flushed), Some(out))
 }

@@ -11,7 +11,7 @@ use Rattle.hp_explain.specs.declared.view.View.{View}
 use Rattle.hp_explain.specs.Explaining.{Explained, ExplainedPartly, NotExplained, PartlyExplained, nothing, some_rows, to_the_end}
 use Rattle.hp_explain.specs.JsonRuns.{ExplainedJson, ExplainedSomeJson, NotExplainedJson, WroteSomeObjects}
 use Rattle.hp_explain.specs.JsonRuns.{no_objects, some_objects, all_objects}
-use Rattle.hp_page.specs.Pages.{IsPage, IsPartOfPage, NotPaged, WroteSomePage, head_text, in_head, in_objects, in_page}
+use Rattle.hp_html.specs.HtmlPages.{IsHtmlPage, IsPartOfHtmlPage, NotPaged, WroteSomeHtmlPage, head_text, in_head, in_objects, in_page}
 use Rattle.hp_program.specs.Answers.{NotDone, OfTrace}
 use Rattle.hp_program.specs.Output.{Flushed}
 use Rattle.hp_program.proofs.Answers.{HasFront, Passes, answered_text, flushed_whole, no_trace_fault, stopped_so, unfailed}
@@ -23,7 +23,7 @@ use Rattle.hp_text.specs.Traces.{HasFault}
 use Rattle.hp_text.specs.Writing.{IsWriteFault, Wrote}
 use Rattle.hp_text.specs.declared.fault.ReplayFault.{ReplayFault}
 use Rattle.hp_text.specs.declared.fault.ReplayFault.TheVariants.{Write}
-use Rattle.hp_trace_commands.specs.Traces.{AnsweredCheck, AnsweredDraw, AnsweredExplain, AnsweredJson, AnsweredPage, AreObjects, Checks}
+use Rattle.hp_trace_commands.specs.Traces.{AnsweredCheck, AnsweredDraw, AnsweredExplain, AnsweredJson, AnsweredHtmlPage, AreObjects, Checks}
 use Rattle.hp_trace_commands.specs.Traces.{ChecksPartly, IsCount, IsExplaining, IsPaging}
 
 -- how many events a trace has
@@ -219,7 +219,7 @@ answered_draw from to old new start before mid after failures wrote answer flush
 
 -- a page
 pages_part : (from to before mid after : Option (List ℕ)) (left : List ℕ) (s : Sizes) (events : List Event)
-    → ReadsTrace from to s events → WroteSomePage s events before mid → Keeps mid (append_known after left)
+    → ReadsTrace from to s events → WroteSomeHtmlPage s events before mid → Keeps mid (append_known after left)
     → HasFront (OfTrace IsPaging) from to before after
 pages_part from to before mid after left s events reads (in_head wrote) kept =
     inr (record {
@@ -240,7 +240,7 @@ pages_part from to before mid after left s events reads (in_page text page wrote
       holds = holds before mid after left text wrote kept;
     })
 
-page_passes : Passes IsPage IsPartOfPage (OfTrace IsPaging)
+page_passes : Passes IsHtmlPage IsPartOfHtmlPage (OfTrace IsPaging)
 page_passes =
     record {
       kept = λ from to before mid after kept h. record {
@@ -263,12 +263,12 @@ page_passes =
 
 pub answered_page : {E : Type 0} (from to : Option (List ℕ)) (old new : ℕ) (start before mid after : Option (List ℕ))
     (failures : ℕ) (wrote answer : Result (Unit {0}) ReplayFault) (flushed : Result (Unit {0}) E)
-    → start ≡ before → OnOk wrote (IsPage from to start mid) → IfErr wrote (λ fault. NotPaged fault from to start mid)
+    → start ≡ before → OnOk wrote (IsHtmlPage from to start mid) → IfErr wrote (λ fault. NotPaged fault from to start mid)
     → IfErr wrote (λ fault. IfSome from (λ bytes. HasFault bytes fault)) → TellsReads wrote old new → TellsWrites wrote 0 failures
     → Flushed (nat_lt 0 failures) flushed mid after → OnOk flushed (answer ≡ wrote) → OnErr flushed (answer ≡ Err Write)
-    → AnsweredPage answer from to old new before (Some after)
+    → AnsweredHtmlPage answer from to old new before (Some after)
 answered_page from to old new start before mid after failures wrote answer flushed same done stopped bad reads writes =
-    answered_text IsPage IsPartOfPage (OfTrace IsPaging) HasFault page_passes from to old new start before mid after 0 failures
+    answered_text IsHtmlPage IsPartOfHtmlPage (OfTrace IsPaging) HasFault page_passes from to old new start before mid after 0 failures
     wrote answer flushed same refl
-    done (stopped_so IsPartOfPage wrote failures from to start mid stopped writes) bad (no_trace_fault from Write tt) reads
+    done (stopped_so IsPartOfHtmlPage wrote failures from to start mid stopped writes) bad (no_trace_fault from Write tt) reads
     (unfailed wrote failures writes)

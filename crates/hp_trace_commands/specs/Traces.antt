@@ -8,7 +8,7 @@ use Rattle.hp_explain.specs.Explaining.{Beginning, Explained, Explanation}
 use Rattle.hp_explain.specs.JsonRuns.{ExplainedJson, Objects, SomeObjects}
 use Rattle.hp_explain.specs.Views.{events_until}
 use Rattle.hp_explain.specs.declared.view.View.{View}
-use Rattle.hp_page.specs.Pages.{IsPage, Page, SomePage, head_text}
+use Rattle.hp_html.specs.HtmlPages.{IsHtmlPage, HtmlPage, SomeHtmlPage, head_text}
 use Rattle.hp_program.specs.Answers.{AnsweredText, OfTrace}
 use Rattle.hp_text.specs.Checking.{ReadsEvents, count_line}
 use Rattle.hp_text.specs.Traces.{HasFault}
@@ -61,8 +61,8 @@ AnsweredDraw answer from to old new before after = AnsweredText IsDrawing (OfTra
 
 -- the head of a page, the front of one with the objects of a front of a run, or a whole one
 abbrev pub IsPaging : Sizes → List Event → List ℕ → Type 0
-IsPaging s events text = (text ≡ head_text) ⊎ (SomePage s events text ⊎ Page s events text)
+IsPaging s events text = (text ≡ head_text) ⊎ (SomeHtmlPage s events text ⊎ HtmlPage s events text)
 
-abbrev pub AnsweredPage : Result (Unit {0}) ReplayFault → Option (List ℕ) → Option (List ℕ) → (old new : ℕ)
+abbrev pub AnsweredHtmlPage : Result (Unit {0}) ReplayFault → Option (List ℕ) → Option (List ℕ) → (old new : ℕ)
     → Option (List ℕ) → Option (Option (List ℕ)) → Type 0
-AnsweredPage answer from to old new before after = AnsweredText IsPage (OfTrace IsPaging) HasFault answer from to old new before after
+AnsweredHtmlPage answer from to old new before after = AnsweredText IsHtmlPage (OfTrace IsPaging) HasFault answer from to old new before after

@@ -1,9 +1,9 @@
 //! `hugepool draw --html`: a trace as a page for a browser.
 ghost use Rattle.std.specs.Prelude.{◌≡◌, Ok, Err, OnOk, Some, IfErr, IfSome};
 ghost use Rattle.std.specs.Option.{option_map};
-ghost use Rattle.hp_trace_commands.specs.Traces.{AnsweredPage};
+ghost use Rattle.hp_trace_commands.specs.Traces.{AnsweredHtmlPage};
 
-use hp_page::page;
+use hp_html::html_page;
 use hp_program::{flush_gathered, flushed_answer, gather};
 use hp_text::{ReplayFault, Source};
 use std::alloc::Global;
@@ -15,13 +15,13 @@ pub fn run_page<R: Source, W: Write + Drop>(
     reader: &mut R,
     out: W,
 ) -> (Result<(), ReplayFault>, Option<W>)
-    ensures { AnsweredPage result.0 (R.remaining reader.old) (R.remaining reader.new) (R.failures reader.old)
+    ensures { AnsweredHtmlPage result.0 (R.remaining reader.old) (R.remaining reader.new) (R.failures reader.old)
         (R.failures reader.new) (W.contents out) (option_map W.contents result.1) }
 {
     let Ok(mut sink) = gather(alloc, out) else {
         return (Err(ReplayFault::Memory), None);
     };
-    let written = page(alloc, reader, &mut sink);
+    let written = html_page(alloc, reader, &mut sink);
     let (flushed, out) = flush_gathered(sink);
     (flushed_answer(written, flushed), Some(out))
 }

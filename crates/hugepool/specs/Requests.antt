@@ -31,7 +31,7 @@ use Rattle.hp_format.specs.declared.fault.LooseFault.{LooseFault}
 use Rattle.hp_trace_commands.specs.Formatting.{AnsweredFormat, status_of_format}
 use Rattle.hp_trace_commands.specs.Strict.{IsUnread, ReadsStrict}
 use Rattle.hugepool.specs.Status.{searches, status_of_loose}
-use Rattle.hp_trace_commands.specs.Traces.{AnsweredCheck, AnsweredDraw, AnsweredExplain, AnsweredJson, AnsweredPage}
+use Rattle.hp_trace_commands.specs.Traces.{AnsweredCheck, AnsweredDraw, AnsweredExplain, AnsweredJson, AnsweredHtmlPage}
 
 -- A reader had the bytes `from` left, and now has `to`; whether it had failed, and whether it has now; an output held `before`, and now
 -- holds `after`.
@@ -56,7 +56,7 @@ EndsTrace (trace.ExplainJson v) status from to old new before after =
 EndsTrace trace.Draw status from to old new before after =
     EndsWith status_of_text status (λ answer. AnsweredDraw answer from to old new before after)
 EndsTrace trace.Page status from to old new before after =
-    EndsWith status_of_text status (λ answer. AnsweredPage answer from to old new before after)
+    EndsWith status_of_text status (λ answer. AnsweredHtmlPage answer from to old new before after)
 EndsTrace trace.Format status from to old new before after =
     EndsWith status_of_format status (λ answer. AnsweredFormat answer from to old new before after)
 

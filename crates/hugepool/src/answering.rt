@@ -92,13 +92,13 @@ fn answer_table<H: Clock + Threads + Sync, R: Source, W: Write + Drop>(
     bounds: EveryBounds,
     reader: &mut R,
     out: W,
-    faults: &mut impl Report,
+    errors: &mut impl Report,
 ) -> (Result<(), Stop>, Option<W>)
     ensures { EndsScript (script.ExploreEvery bounds) (status_at result.0) (R.remaining reader.old) (R.remaining reader.new)
         (R.failures reader.old) (R.failures reader.new) (W.contents out) (option_map W.contents result.1) }
 {
     let mut cut = None;
-    let (done, out) = run_explore_every(rt, alloc, bounds, reader, out, &mut cut, faults);
+    let (done, out) = run_explore_every(rt, alloc, bounds, reader, out, &mut cut, errors);
     (stop_of_table(done, cut, Missed::Schedules), out)
 }
 
@@ -109,13 +109,13 @@ fn answer_choice<H: Clock + Threads + Sync, R: Source, W: Write + Drop>(
     choice: EndingChoice,
     reader: &mut R,
     out: W,
-    faults: &mut impl Report,
+    errors: &mut impl Report,
 ) -> (Result<(), Stop>, Option<W>)
     ensures { EndsScript (script.ScheduleEvery choice) (status_at result.0) (R.remaining reader.old) (R.remaining reader.new)
         (R.failures reader.old) (R.failures reader.new) (W.contents out) (option_map W.contents result.1) }
 {
     let mut cut = None;
-    let (done, out) = run_schedule_every(rt, alloc, choice, reader, out, &mut cut, faults);
+    let (done, out) = run_schedule_every(rt, alloc, choice, reader, out, &mut cut, errors);
     (stop_of_table(done, cut, Missed::Row), out)
 }
 
@@ -126,13 +126,13 @@ fn answer_search<H: Clock + Threads + Sync, R: Source, W: Write + Drop>(
     search: &EverySearch,
     reader: &mut R,
     out: W,
-    faults: &mut impl Report,
+    errors: &mut impl Report,
 ) -> (Result<(), Stop>, Option<W>)
     ensures { EndsScript (script.FindEvery search.now) (status_at result.0) (R.remaining reader.old) (R.remaining reader.new)
         (R.failures reader.old) (R.failures reader.new) (W.contents out) (option_map W.contents result.1) }
 {
     let mut cut = None;
-    let (met, out) = run_find_every(rt, alloc, search, reader, out, &mut cut, faults);
+    let (met, out) = run_find_every(rt, alloc, search, reader, out, &mut cut, errors);
     (stop_of_every(met, cut), out)
 }
 
@@ -143,42 +143,42 @@ fn answer_script<H: Clock + Threads + Wait + Sync, R: Source, W: Write + Drop>(
     request: ScriptRequest,
     reader: &mut R,
     out: W,
-    faults: &mut impl Report,
+    errors: &mut impl Report,
 ) -> (Result<(), Stop>, Option<W>)
     ensures { EndsScript request (status_at result.0) (R.remaining reader.old) (R.remaining reader.new) (R.failures reader.old)
         (R.failures reader.new) (W.contents out) (option_map W.contents result.1) }
 {
     match request {
         ScriptRequest::Explore(exploration) => runs(
-            run_explore(rt, alloc, exploration, reader, out, faults),
+            run_explore(rt, alloc, exploration, reader, out, errors),
             Missed::Ends,
         ),
         ScriptRequest::Summarize(survey) => runs(
-            run_summarize(rt, alloc, survey, reader, out, faults),
+            run_summarize(rt, alloc, survey, reader, out, errors),
             Missed::Ends,
         ),
         ScriptRequest::ExploreEvery(bounds) => {
-            answer_table(rt, alloc, bounds, reader, out, faults)
+            answer_table(rt, alloc, bounds, reader, out, errors)
         }
         ScriptRequest::Schedule(scheduling) => {
-            text(run_schedule(alloc, scheduling, reader, out, faults))
+            text(run_schedule(alloc, scheduling, reader, out, errors))
         }
         ScriptRequest::ScheduleEvery(choice) => {
-            answer_choice(rt, alloc, choice, reader, out, faults)
+            answer_choice(rt, alloc, choice, reader, out, errors)
         }
         ScriptRequest::Find(search) => hunted(
-            run_find(rt, alloc, &search, reader, out, faults),
+            run_find(rt, alloc, &search, reader, out, errors),
             Missed::Runs(search.hunt.limit),
         ),
         ScriptRequest::FindEvery(search) => {
-            answer_search(rt, alloc, &search, reader, out, faults)
+            answer_search(rt, alloc, &search, reader, out, errors)
         }
         ScriptRequest::Minimize(conditions) => hunted(
-            run_minimize(rt, alloc, conditions.as_slice(), reader, out, faults),
+            run_minimize(rt, alloc, conditions.as_slice(), reader, out, errors),
             Missed::Trace,
         ),
         ScriptRequest::Race(racing) => runs(
-            run_race(rt, alloc, racing, reader, out, faults),
+            run_race(rt, alloc, racing, reader, out, errors),
             Missed::Ends,
         ),
     }
@@ -221,14 +221,14 @@ pub(crate) fn answer<H: Clock + Files + Threads + Wait + Sync, R: Source, W: Wri
     request: Request,
     reader: &mut R,
     out: W,
-    faults: &mut impl Report,
+    errors: &mut impl Report,
 ) -> (Result<(), Stop>, Option<W>)
     ensures { Ends request (status_at result.0) (R.remaining reader.old) (R.remaining reader.new) (R.failures reader.old)
         (R.failures reader.new) (W.contents out) (option_map W.contents result.1) }
 {
     match request {
         Request::Trace(request) => answer_trace(alloc, request, reader, out),
-        Request::Script(request) => answer_script(rt, alloc, request, reader, out, faults),
+        Request::Script(request) => answer_script(rt, alloc, request, reader, out, errors),
         Request::Pool(request) => answer_pool(rt, alloc, request, reader, out),
         Request::Audit => {
             let (audited, out) = run_audit(alloc, reader, out);

@@ -116,10 +116,10 @@ pub(crate) fn hint_empty<R: Recalls>(
     answer: &Result<(), Stop>,
     input: &Input,
     reader: &R,
-    faults: &mut impl Write,
+    errors: &mut impl Write,
 ) {
     if file_of(input).is_none() && is_empty(answer, reader) {
-        let _ = faults.write_all(EMPTY);
+        let _ = errors.write_all(EMPTY);
     }
 }
 
@@ -139,7 +139,7 @@ pub(crate) fn tell_loose<R: Recalls>(
     alloc: Global,
     answer: &Result<(), Stop>,
     reader: &R,
-    faults: &mut impl Write,
+    errors: &mut impl Write,
 ) {
     let Err(Stop::Loose(fault) | Stop::UntoldLoose(fault)) = answer else {
         return;
@@ -155,7 +155,7 @@ pub(crate) fn tell_loose<R: Recalls>(
         return;
     }
     if let Some(wrong) = WrongLine::of_loose(words.as_slice(), *number, is_header) {
-        let _ = writeln!(faults, "hugepool: {wrong}");
+        let _ = writeln!(errors, "hugepool: {wrong}");
     }
 }
 
@@ -165,7 +165,7 @@ fn hint_format<R: Recalls>(
     reads: Reads,
     answer: &Result<(), Stop>,
     reader: &R,
-    faults: &mut impl Write,
+    errors: &mut impl Write,
 ) {
     let Some(number) = line_of(answer) else {
         return;
@@ -179,7 +179,7 @@ fn hint_format<R: Recalls>(
     }
     let is_loose = matches!(is_loose(alloc, line, number, reads), Ok(true));
     if is_loose && reads != Reads::Other {
-        let _ = faults.write_all(LOOSE);
+        let _ = errors.write_all(LOOSE);
     }
 }
 
@@ -200,9 +200,9 @@ const STRICT: &[u8] =
 
 impl Counted {
     /// Says so, if the number of a line was told.
-    pub(crate) fn hint(self, answer: &Result<(), Stop>, faults: &mut impl Write) {
+    pub(crate) fn hint(self, answer: &Result<(), Stop>, errors: &mut impl Write) {
         if matches!(self, Counted::Strict) && line_of(answer).is_some() {
-            let _ = faults.write_all(STRICT);
+            let _ = errors.write_all(STRICT);
         }
     }
 }
@@ -223,9 +223,9 @@ fn begins_alone<R: Recalls>(reader: &R) -> bool {
 }
 
 // Names the commands that run a script, if a trace was shown that has begins alone.
-fn hint_script<R: Recalls>(answer: &Result<(), Stop>, reader: &R, faults: &mut impl Write) {
+fn hint_script<R: Recalls>(answer: &Result<(), Stop>, reader: &R, errors: &mut impl Write) {
     if answer.is_ok() && begins_alone(reader) {
-        let _ = faults.write_all(SCRIPT);
+        let _ = errors.write_all(SCRIPT);
     }
 }
 
@@ -236,9 +236,9 @@ const SCRIPT: &[u8] =
 const MANY: u64 = 5_000;
 
 // Names the page, if a picture of many events was drawn.
-fn hint_page<R: Recalls>(answer: &Result<(), Stop>, reader: &R, faults: &mut impl Write) {
+fn hint_page<R: Recalls>(answer: &Result<(), Stop>, reader: &R, errors: &mut impl Write) {
     if answer.is_ok() && reader.ended().is_some_and(|lines| lines > MANY + 1) {
-        let _ = faults.write_all(PAGE);
+        let _ = errors.write_all(PAGE);
     }
 }
 
@@ -255,7 +255,7 @@ fn hint_tasks<R: Recalls>(
     tasks: u64,
     answer: &Result<(), Stop>,
     reader: &R,
-    faults: &mut impl Write,
+    errors: &mut impl Write,
 ) {
     let (Ok(()), Some(line)) = (answer, reader.line(1)) else {
         return;
@@ -264,7 +264,7 @@ fn hint_tasks<R: Recalls>(
     match header_at(line.bytes) {
         Some(config) if last > config.tasks => {
             let _ = writeln!(
-                faults,
+                errors,
                 "hugepool: the pool has no task {last}, its tasks are 1 to {}",
                 config.tasks
             );
@@ -340,15 +340,15 @@ impl Hints {
         alloc: Global,
         answer: &Result<(), Stop>,
         reader: &R,
-        faults: &mut impl Write,
+        errors: &mut impl Write,
     ) {
-        hint_format(alloc, self.reads, answer, reader, faults);
+        hint_format(alloc, self.reads, answer, reader, errors);
         if self.shows_run {
-            hint_script(answer, reader, faults);
+            hint_script(answer, reader, errors);
         }
         if self.draws {
-            hint_page(answer, reader, faults);
+            hint_page(answer, reader, errors);
         }
-        hint_tasks(self.tasks, answer, reader, faults);
+        hint_tasks(self.tasks, answer, reader, errors);
     }
 }

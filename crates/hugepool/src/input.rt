@@ -66,30 +66,30 @@ pub(crate) fn file_of(input: &Input) -> Option<&str> {
 pub(crate) fn open_input(
     rt: &HostRuntime,
     asked: &Result<Asked, clap::Error>,
-    faults: &mut impl Write,
+    errors: &mut impl Write,
 ) -> Result<Opened, u8> {
     let Ok(asked) = asked else {
         return Ok(Opened::Standard(rt.stdin()));
     };
     let status = status_unopened(&asked.request);
     match &asked.input {
-        Input::File(path) => Ok(Opened::File(open_file(rt, path.as_str(), status, faults)?)),
+        Input::File(path) => Ok(Opened::File(open_file(rt, path.as_str(), status, errors)?)),
         Input::Before(path) => Ok(Opened::Before(Before {
-            file: open_file(rt, path.as_str(), status, faults)?,
+            file: open_file(rt, path.as_str(), status, errors)?,
             is_over: false,
             is_ended: true,
             stdin: rt.stdin(),
         })),
         Input::Nothing => Ok(Opened::Standard(rt.stdin())),
-        Input::Standard => Ok(Opened::Standard(standard(rt, faults))),
+        Input::Standard => Ok(Opened::Standard(standard(rt, errors))),
     }
 }
 
 // Standard input, all of which is read before most is answered: at a terminal that looks as if nothing went on.
-fn standard(rt: &HostRuntime, faults: &mut impl Write) -> Stdin {
+fn standard(rt: &HostRuntime, errors: &mut impl Write) -> Stdin {
     let stdin = rt.stdin();
     if stdin.is_terminal() {
-        let _ = faults.write_all(TERMINAL);
+        let _ = errors.write_all(TERMINAL);
     }
     stdin
 }
@@ -99,12 +99,12 @@ fn open_file(
     rt: &HostRuntime,
     path: &str,
     status: u8,
-    faults: &mut impl Write,
+    errors: &mut impl Write,
 ) -> Result<File, u8> {
     match File::open(rt, path) {
         Ok(file) => Ok(file),
         Err(error) => {
-            let _ = writeln!(faults, "hugepool: {path}: {error}");
+            let _ = writeln!(errors, "hugepool: {path}: {error}");
             Err(status)
         }
     }

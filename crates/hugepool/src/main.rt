@@ -32,16 +32,16 @@ use std::process::ExitCode;
 use words::{end_without, words};
 
 fn main(rt: HostRuntime) -> io::Result<ExitCode> {
-    let mut faults = rt.stderr();
+    let mut errors = rt.stderr();
     let words = match words(&rt) {
         Ok(words) => words,
-        Err(why) => return Ok(ExitCode::from(end_without(why, &mut faults))),
+        Err(why) => return Ok(ExitCode::from(end_without(why, &mut errors))),
     };
     let mut asked = read_words(rt.alloc(), words.as_slice(), rt.stdin().is_terminal());
     if let Ok(asked) = &mut asked {
         limit_memory(&rt, asked);
     }
-    let input = match open_input(&rt, &asked, &mut faults) {
+    let input = match open_input(&rt, &asked, &mut errors) {
         Ok(input) => input,
         Err(status) => return Ok(ExitCode::from(status)),
     };
@@ -51,14 +51,14 @@ fn main(rt: HostRuntime) -> io::Result<ExitCode> {
     let mut objects = Objects::new(rt.alloc(), painted, chosen_output(&asked));
     objects.begin();
     let out = Noted::new(objects);
-    let (status, out) = program(&rt, rt.alloc(), asked, &mut reader, out, &mut faults);
+    let (status, out) = program(&rt, rt.alloc(), asked, &mut reader, out, &mut errors);
     if has_left(&out) {
         return Ok(ExitCode::from(LEFT));
     }
     if status != 0 {
         let reading = reader.into_inner().into_inner().error();
         let writing = out.and_then(|out| out.error());
-        let _ = write_error(reading, writing, &mut faults);
+        let _ = write_error(reading, writing, &mut errors);
     }
     Ok(ExitCode::from(status))
 }

@@ -25,7 +25,7 @@ use std::thread::Threads;
 use std::time::Clock;
 
 /// Does on these streams what is asked for, and returns the status: 0 where it was done, 1 after a fault, 2 where nothing is asked for.
-/// A fault is one line on `faults`, and behind that of a line what is wrong with it, where the reader recalls the line. If the reader of
+/// A fault is one line on `errors`, and behind that of a line what is wrong with it, where the reader recalls the line. If the reader of
 /// the output has left, nothing is said. The output is handed back, unless it went with a buffer for which there was no memory.
 pub(crate) fn program<
     H: Clock + Files + Threads + Wait + Sync,
@@ -37,7 +37,7 @@ pub(crate) fn program<
     asked: Result<Asked, clap::Error>,
     reader: &mut R,
     out: W,
-    faults: &mut impl Report,
+    errors: &mut impl Report,
 ) -> (u8, Option<W>)
     ensures { EndsAsAsked asked result.0 (R.remaining reader.old) (R.remaining reader.new) (R.failures reader.old)
         (R.failures reader.new) (W.contents out) (option_map W.contents result.1) }
@@ -50,12 +50,12 @@ pub(crate) fn program<
                 is_loose: true,
                 ..
             },
-        ) => carry_out_loosely(rt, alloc, request, &input, reader, out, faults),
+        ) => carry_out_loosely(rt, alloc, request, &input, reader, out, errors),
         Ok(Asked { request, input, .. }) => {
             let lines = Counted::Read;
-            carry_out(rt, alloc, request, &input, lines, reader, out, faults)
+            carry_out(rt, alloc, request, &input, lines, reader, out, errors)
         }
-        Err(error) => refuse(error, &*reader, out, faults),
+        Err(error) => refuse(error, &*reader, out, errors),
     }
 }
 
@@ -68,21 +68,21 @@ fn carry_out<H: Clock + Files + Threads + Wait + Sync, R: Source + Recalls, W: H
     lines: Counted,
     reader: &mut R,
     out: W,
-    faults: &mut impl Report,
+    errors: &mut impl Report,
 ) -> (u8, Option<W>)
     ensures { Ends request result.0 (R.remaining reader.old) (R.remaining reader.new) (R.failures reader.old)
         (R.failures reader.new) (W.contents out) (option_map W.contents result.1) }
 {
     let hints = Hints::of(&request);
-    let (answer, out) = answer(rt, alloc, request, reader, out, faults);
+    let (answer, out) = answer(rt, alloc, request, reader, out, errors);
     if has_left(&out) {
         return (status_at(&answer), out);
     }
-    let status = end(&answer, file_of(input), &*reader, faults);
-    lines.hint(&answer, faults);
-    tell_loose(alloc, &answer, &*reader, faults);
-    hint_empty(&answer, input, &*reader, faults);
-    hints.give(alloc, &answer, &*reader, faults);
+    let status = end(&answer, file_of(input), &*reader, errors);
+    lines.hint(&answer, errors);
+    tell_loose(alloc, &answer, &*reader, errors);
+    hint_empty(&answer, input, &*reader, errors);
+    hints.give(alloc, &answer, &*reader, errors);
     (status, out)
 }
 
@@ -98,7 +98,7 @@ fn carry_out_loosely<
     input: &Input,
     reader: &mut R,
     out: W,
-    faults: &mut impl Report,
+    errors: &mut impl Report,
 ) -> (u8, Option<W>)
     ensures { EndsLoosely request result.0 (R.remaining reader.old) (R.remaining reader.new) (R.failures reader.old)
         (R.failures reader.new) (W.contents out) (option_map W.contents result.1) }
@@ -107,14 +107,14 @@ fn carry_out_loosely<
         Ok(strict) => strict,
         Err(fault) => {
             let answer = Err(stop_of_loose(fault, searches(&request)));
-            let status = end(&answer, file_of(input), &*reader, faults);
-            tell_loose(alloc, &answer, &*reader, faults);
+            let status = end(&answer, file_of(input), &*reader, errors);
+            tell_loose(alloc, &answer, &*reader, errors);
             return (status, Some(out));
         }
     };
     let mut source = Recalling::new(Watched::new(strict.as_slice()));
     let lines = Counted::Strict;
-    carry_out(rt, alloc, request, input, lines, &mut source, out, faults)
+    carry_out(rt, alloc, request, input, lines, &mut source, out, errors)
 }
 
 // The status of an answer.
@@ -132,12 +132,12 @@ fn end<R: Recalls>(
     answer: &Result<(), Stop>,
     file: Option<&str>,
     reader: &R,
-    faults: &mut impl Write,
+    errors: &mut impl Write,
 ) -> u8
     ensures { result ≡ status_at answer.now }
 {
     if let Err(stop) = answer {
-        let _ = tell(stop, file, reader, faults);
+        let _ = tell(stop, file, reader, errors);
     }
     status_at(answer)
 }
@@ -147,18 +147,18 @@ fn tell<R: Recalls>(
     stop: &Stop,
     file: Option<&str>,
     reader: &R,
-    faults: &mut impl Write,
+    errors: &mut impl Write,
 ) -> io::Result<()> {
     match (stop, file) {
         (Stop::Replay(fault) | Stop::Untold(fault), file) => {
-            write_fault(*fault, file, reader, faults)
+            write_fault(*fault, file, reader, errors)
         }
         (Stop::Loose(fault) | Stop::UntoldLoose(fault), Some(file)) => writeln!(
-            faults,
+            errors,
             "hugepool: {file}: {fault}"
         ),
-        (Stop::Picture(fault), Some(file)) => writeln!(faults, "hugepool: {file}: {fault}"),
-        _ => write!(faults, "{stop}"),
+        (Stop::Picture(fault), Some(file)) => writeln!(errors, "hugepool: {file}: {fault}"),
+        _ => write!(errors, "{stop}"),
     }
 }
 
@@ -167,7 +167,7 @@ fn refuse<R: Source + Recalls, W: Heard + Drop>(
     error: clap::Error,
     reader: &R,
     mut out: W,
-    faults: &mut impl Write,
+    errors: &mut impl Write,
 ) -> (u8, Option<W>)
     ensures { EndsUnasked error result.0 (R.remaining reader.now) (R.remaining reader.now) (R.failures reader.now)
         (R.failures reader.now) (W.contents out) (option_map W.contents result.1) }
@@ -178,11 +178,11 @@ fn refuse<R: Source + Recalls, W: Heard + Drop>(
             if out.has_left() {
                 return (status_at(&answer), Some(out));
             }
-            (end(&answer, None, reader, faults), Some(out))
+            (end(&answer, None, reader, errors), Some(out))
         }
         _ => {
             let answer = Err(no_request(error));
-            (end(&answer, None, reader, faults), Some(out))
+            (end(&answer, None, reader, errors), Some(out))
         }
     }
 }

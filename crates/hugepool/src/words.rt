@@ -38,10 +38,10 @@ pub(crate) fn words(rt: &HostRuntime) -> Result<Vec<String>, NoWords> {
 }
 
 /// Tells why there are no words, and the status that the program ends with. Whether it can be told changes nothing.
-pub(crate) fn end_without(why: NoWords, faults: &mut impl Write) -> u8
+pub(crate) fn end_without(why: NoWords, errors: &mut impl Write) -> u8
     ensures { result ≡ status_without why }
 {
-    let _ = write!(faults, "{why}");
+    let _ = write!(errors, "{why}");
     match why {
         NoWords::Memory => 1,
         NoWords::NoText => 2,

@@ -14,17 +14,17 @@ use std::io;
 use std::process::ExitCode;
 
 fn main(rt: HostRuntime) -> io::Result<ExitCode> {
-    let mut faults = rt.stderr();
+    let mut errors = rt.stderr();
     let mut reader = Recalling::new(Watched::new(Noted::new(rt.stdin())));
     let out = Noted::new(rt.stdout());
-    let (status, out) = program(rt.alloc(), &mut reader, out, &mut faults);
+    let (status, out) = program(rt.alloc(), &mut reader, out, &mut errors);
     if has_left(&out) {
         return Ok(ExitCode::from(LEFT));
     }
     if status != 0 {
         let reading = reader.into_inner().into_inner().error();
         let writing = out.and_then(|out| out.error());
-        let _ = write_error(reading, writing, &mut faults);
+        let _ = write_error(reading, writing, &mut errors);
     }
     Ok(ExitCode::from(status))
 }

@@ -1,4 +1,4 @@
--- The first of a part is the first of all, where those before it miss.
+-- The first of a batch is the first of all, where those before it miss.
 use Rattle.std.proofs.Common.{◌≤◌, ◌+◌, refl, arith}
 use Rattle.hp_hunt.proofs.Claimed.{all_missed, found_first}
 use Rattle.hp_watch.proofs.Moments.{none_told}

@@ -6,12 +6,12 @@ use Rattle.hp_hunt.proofs.claims.SearchWork.make.Goals.{then-met, else-met}
 
 pub returns : goal.returns
 returns c =
-    let part = c.args.self.now.part in
+    let batch = c.args.self.now.batch in
     let place = c.args.place in
     let met = c.in_ok-met.met in
     let events = c.explore_run.new.events in
     let its = c.in_ok-met.ensures in
     elim c.if-met.branch [
-      | then-met w ↦ subst (TellsOf part place) (sym w.result-is) (told_met part place met events its.met its.few w.if-met.true)
-      | else-met w ↦ subst (TellsOf part place) (sym w.result-is) (told_missed part place met events its.met w.if-met.false)
+      | then-met w ↦ subst (TellsOf batch place) (sym w.result-is) (told_met batch place met events its.met its.few w.if-met.true)
+      | else-met w ↦ subst (TellsOf batch place) (sym w.result-is) (told_missed batch place met events its.met w.if-met.false)
     ]

@@ -1,6 +1,0 @@
-use Rattle.std.proofs.Common.{◌≡◌, ◌+◌}
-use Rattle.std.specs.Prelude.{None, replicate}
-use Rattle.hp_draw.proofs.sketch.no_standings.Given as goal
-
-abbrev pub invariant-loop-task : goal.invariant-loop-task
-invariant-loop-task l = l.standings.items ≡ replicate (l._task + 1) None

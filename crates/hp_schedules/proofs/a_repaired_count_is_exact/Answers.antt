@@ -1,6 +1,0 @@
-use Rattle.hp_schedules.specs.Laws.{IsExact}
-use Rattle.hp_schedules.proofs.Claims.{exact_count, by_repaired}
-use Rattle.hp_schedules.proofs.a_repaired_count_is_exact.Goals as goal
-
-pub returns : goal.returns
-returns c = by_repaired IsExact exact_count

@@ -1,7 +1,0 @@
-use Rattle.std.specs.Prelude.{false}
-use Rattle.hp_schedules.specs.Laws.{IsListed}
-use Rattle.hp_schedules.proofs.Claims.{listed, by_may}
-use Rattle.hp_schedules.proofs.a_run_is_a_list_of_entries.Goals as goal
-
-pub returns : goal.returns
-returns c = by_may IsListed (listed false false)

@@ -1,7 +1,0 @@
-use Rattle.std.specs.Prelude.{false}
-use Rattle.hp_schedules.specs.Laws.{FramesAreInOnePlace}
-use Rattle.hp_schedules.proofs.Claims.{placed_once, by_may}
-use Rattle.hp_schedules.proofs.frames_are_in_one_place_on_every_schedule.Goals as goal
-
-pub returns : goal.returns
-returns c = by_may FramesAreInOnePlace (placed_once false false)

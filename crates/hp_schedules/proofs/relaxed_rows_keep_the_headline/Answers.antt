@@ -1,5 +1,0 @@
-use Rattle.hp_schedules.proofs.Relaxed.{relaxed_headline}
-use Rattle.hp_schedules.proofs.relaxed_rows_keep_the_headline.Goals as goal
-
-pub returns : goal.returns
-returns c = relaxed_headline

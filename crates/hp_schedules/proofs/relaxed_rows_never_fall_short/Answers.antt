@@ -1,5 +1,0 @@
-use Rattle.hp_schedules.proofs.Relaxed.{relaxed_never_short}
-use Rattle.hp_schedules.proofs.relaxed_rows_never_fall_short.Goals as goal
-
-pub returns : goal.returns
-returns c = relaxed_never_short

@@ -1,6 +1,0 @@
-use Rattle.hp_schedules.specs.Laws.{PagesAreReserved}
-use Rattle.hp_schedules.proofs.Claims.{pages_reserved, by_repaired}
-use Rattle.hp_schedules.proofs.repaired_pages_stay_reserved.Goals as goal
-
-pub returns : goal.returns
-returns c = by_repaired PagesAreReserved pages_reserved

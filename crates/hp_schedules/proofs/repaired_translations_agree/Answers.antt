@@ -1,7 +1,0 @@
-use Rattle.std.specs.Prelude.{true}
-use Rattle.hp_schedules.specs.Laws.{TranslationsAgree}
-use Rattle.hp_schedules.proofs.Claims.{agrees, by_repaired}
-use Rattle.hp_schedules.proofs.repaired_translations_agree.Goals as goal
-
-pub returns : goal.returns
-returns c = by_repaired TranslationsAgree (agrees true true)

@@ -1,5 +1,0 @@
-use Rattle.hp_schedules.proofs.Owing.{machine_runs}
-use Rattle.hp_schedules.proofs.runs_of_the_machine_are_among_them.Goals as goal
-
-pub returns : goal.returns
-returns c = machine_runs

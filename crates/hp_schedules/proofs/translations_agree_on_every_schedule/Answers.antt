@@ -1,7 +1,0 @@
-use Rattle.std.specs.Prelude.{false}
-use Rattle.hp_schedules.specs.Laws.{TranslationsAgree}
-use Rattle.hp_schedules.proofs.Claims.{agrees, by_may}
-use Rattle.hp_schedules.proofs.translations_agree_on_every_schedule.Goals as goal
-
-pub returns : goal.returns
-returns c = by_may TranslationsAgree (agrees false false)
