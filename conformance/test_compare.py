@@ -21,6 +21,8 @@ from compare import KNOWN, LIMIT, Program
 SCRIPTS = Path(__file__).resolve().parent / "calls-fixed.txt"
 SCRIPTS_OF_QUOTAS = SCRIPTS.with_name("calls-quota.txt")
 SCRIPTS_OF_RESIZES = SCRIPTS.with_name("calls-resize.txt")
+# the calls with bytes that the tests of hp_pool make, which can read no file
+BYTE_CALLS = SCRIPTS.parents[1] / "crates" / "hp_pool_tests" / "src" / "byte_calls.rt"
 # they come to a touch of a page that is cached at or above the size
 PAST_THE_END = {"d:smallest", "d:touch-of-a-cached-page-past-the-end", "d:translation-past-the-end"}
 # a task touches a page below the size that is cached, and that it hasn't touched before
@@ -133,11 +135,23 @@ def status_of(said: str) -> int:
         return compare.main([file])
 
 
+def unrecorded_byte_calls() -> Iterator[str]:
+    """What the byte calls of the pool's tests have that isn't recorded, script by script and in order."""
+    scripts = BYTE_CALLS.read_text(encoding="utf-8").partition('const ANSWERS: &str = "')[2].partition('";')[0].replace("\\n\\\n", "\n").split("script ")[1:]
+    yield from [] if scripts else ["no byte calls are read"]
+    for script in scripts:
+        name, *lines = script.removesuffix("\\n").splitlines()
+        recorded = iter(SCRIPTS.read_text(encoding="utf-8").partition(f"script {name}\n")[2].partition("\nend ")[0].splitlines())
+        # (each line is looked for behind the one before)
+        yield from (f"{BYTE_CALLS.name}: {name}: {line}: it isn't recorded so" for line in lines if line not in recorded)
+
+
 def faults() -> Iterator[str]:
     """What the comparison doesn't tell, or tells where nothing is."""
     for said, status in STATUSES.items():
         if (found := status_of(said)) != status:
             yield f"where a kernel says {said} the status is {found}"
+    yield from unrecorded_byte_calls()
     for (task, page), place in PLACES.items():
         if (found := compare.place_of(CALLS, task, page)) != place:
             yield f"page {page} of task {task} is reckoned to show {found}, and shows {place}"
@@ -157,7 +171,7 @@ def main() -> int:
     compare.tested()
     found = list(faults())
     print("".join(f"  {it}\n" for it in found), end="")
-    tried = len(STATUSES) + len(PLACES) + len(compare.RECORDED) + sum(len(expected) for _, expected in EXPECTATIONS)
+    tried = 1 + len(STATUSES) + len(PLACES) + len(compare.RECORDED) + sum(len(expected) for _, expected in EXPECTATIONS)
     print(f"wrong programs told: {tried - len(found)} passed, {len(found)} failed")
     return 1 if found else 0
 
