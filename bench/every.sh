@@ -3,7 +3,8 @@
 # (which needs fewer states), and then for all their endings, on one processor: scripts of examples/, and
 # three and four tasks that map one file and store into it.
 # Prints the processor time, the peak memory, and the states by the progress line, which is shown after
-# half a second. Needs cargo, python3 and taskset.
+# half a second. Then the largest search by the clock, on one processor and on all, in turn.
+# Needs cargo, python3 and taskset.
 set -euo pipefail
 source "$(dirname "${BASH_SOURCE[0]}")/needs.sh" python3 taskset
 PYTHONPATH=bench exec python3 -B - <<'P'
@@ -11,14 +12,18 @@ import os
 import pty
 import re
 import shutil
+import subprocess
 import sys
 import tempfile
+import time
 from pathlib import Path
+from statistics import median
 from measure import PROVED, peak_memory, prepare
 
 NAMES = ("truncate-against-fault", "two-files-one-quota", "store-against-map", "balloon-against-guest", "two-files-short-pool",
     "truncate-against-store")
 ONE = [shutil.which("taskset"), "-c", str(sorted(os.sched_getaffinity(0))[0])]
+ROUNDS = 5
 # what is searched, and the status
 SEARCHES = {
     "answer": ([PROVED[0], "find", "--every", "--answer", "1:1=segv"], 1),
@@ -57,6 +62,15 @@ def searched(search, wanted, path):
     return used.ru_utime + used.ru_stime, int(states[-1]) if states else None
 
 
+def clocked(words, wanted, path):
+    """The seconds that a search takes by the clock."""
+    with open(path, "rb") as script:
+        began = time.monotonic()
+        if subprocess.run(words, stdin=script, stdout=subprocess.DEVNULL, stderr=subprocess.DEVNULL).returncode != wanted:
+            sys.exit(f"bench: the search of {path} failed")
+        return time.monotonic() - began
+
+
 prepare()
 with tempfile.TemporaryDirectory() as folder:
     scripts = {name: Path("examples") / f"{name}.script" for name in NAMES}
@@ -70,4 +84,9 @@ with tempfile.TemporaryDirectory() as folder:
             memory = peak_memory(search, path)
             told = ["-" if it is None else it for it in (memory, states)]
             print(f"{name:36} {what:7} {seconds:7.2f} {told[0]:>8} {told[1]:>9}", flush=True)
+    for what, (search, wanted) in SEARCHES.items():
+        rounds = [[clocked(words, wanted, path) for words in ([*ONE, *search], search)] for _ in range(ROUNDS)]
+        one, all_of_them = (median(it) for it in zip(*rounds))
+        print(f"{name} by the clock, {what}, median of {ROUNDS} rounds in turn: {one:.2f} s on one processor, {all_of_them:.2f} s on"
+            f" {len(os.sched_getaffinity(0))}: {one / all_of_them:.2f} times as fast", flush=True)
 P

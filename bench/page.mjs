@@ -1,5 +1,5 @@
 #!/usr/bin/env node
-// Times the page of ./page in the browsers that are there: how long 20,000 events take to be shown, and each kind of move at moments all
+// Times the page of ./viewer in the browsers that are there: how long 20,000 events take to be shown, and each kind of move at moments all
 // over them.
 //
 //   bench/page.mjs [PAGE.html [ROUNDS]]    dist/hugepool.html and 3 rounds, if none are named
@@ -8,13 +8,13 @@
 // tasks. A move takes as long as it keeps the page from anything else: its handler, the layout, and the work of the next frame, for which
 // to wait isn't counted. Printed are the median and the most in milliseconds, by the clock and, behind /, of processor time of the page's
 // own thread, on which other work of the machine tells less. Before a move the page rests for up to 0.3 s, so that what follows of one
-// move meets the next: how late the next one comes then is `held`. Needs node, Linux, and what library/page/browsers.mjs says.
+// move meets the next: how late the next one comes then is `held`. Needs node, Linux, and what library/viewer/browsers.mjs says.
 import { execFileSync } from "node:child_process";
 import fs from "node:fs";
 import path from "node:path";
 import { fileURLToPath, pathToFileURL } from "node:url";
-import { pack } from "../library/page/address.js";
-import { inBrowsers } from "../library/page/browsers.mjs";
+import { pack } from "../library/viewer/address.js";
+import { inBrowsers } from "../library/viewer/browsers.mjs";
 
 const TOP = path.dirname(path.dirname(fileURLToPath(import.meta.url)));
 const [file = path.join(TOP, "dist", "hugepool.html"), rounds = "3"] = process.argv.slice(2);
