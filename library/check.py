@@ -10,7 +10,8 @@ examples/commands, and others by conditions of random words; calls that name not
 small, and N events of random numbers (200,000; a long try is 10,000,000); and that the library has no variables, which threads would share.
 
 At last a program in C++, where there is c++; the crates for Rust, where there is cargo, each way that they find the library; the Python
-module, where there is pytest; a wheel in an environment of its own, where there are setuptools; and the programs of docs/LIBRARY.md.
+module, where there is pytest; both over an instrumented library (sanitized.py); a wheel in an environment of its own, where there are
+setuptools; and the programs of docs/LIBRARY.md.
 """
 from __future__ import annotations
 
@@ -28,6 +29,8 @@ from pathlib import Path
 from typing import Iterator
 
 import archive
+import module
+import sanitized
 import searched
 import shown
 from archive import ARCHIVE, TOP
@@ -66,14 +69,20 @@ def share(room: Path) -> Path:
     return library
 
 
-def try_python(room: Path) -> tuple[int, int]:
-    """How many tests of the module passed, and how many failed."""
-    python = next((it for it in (sys.executable, "/usr/bin/python3") if can(it, "import pytest")), None)
+def python_with(*modules: str) -> str | None:
+    """A Python that has these modules."""
+    return next((it for it in (sys.executable, "/usr/bin/python3") if can(it, f"import {', '.join(modules)}")), None)
+
+
+def try_python(room: Path, **own: str | Path) -> tuple[int, int]:
+    """How many tests of the module passed, and how many failed, by a library that variables name or the shared one."""
+    python = python_with("pytest")
     if python is None:
         print("left out: the Python module, since pytest is missing (package: python3-pytest)")
         return 0, 0
-    own = {**os.environ, "HUGEPOOL_LIBRARY": str(share(room)), "PYTHONDONTWRITEBYTECODE": "1"}
-    return counted([python, "-m", "pytest", "-q", "-p", "no:cacheprovider", "library/python"], TOP, own)
+    own = {"HUGEPOOL_LIBRARY": share(room)} | own
+    words = [python, "-m", "pytest", "-q", "-p", "no:cacheprovider", "library/python"]
+    return counted(words, TOP, {**os.environ, "PYTHONDONTWRITEBYTECODE": "1", **{it: str(value) for it, value in own.items()}})
 
 
 def counted(words: list[str | Path], where: Path, own: dict[str, str]) -> tuple[int, int]:
@@ -85,7 +94,7 @@ def counted(words: list[str | Path], where: Path, own: dict[str, str]) -> tuple[
 
 def try_wheel(room: Path) -> tuple[int, int]:
     """Whether a wheel installs in an environment of its own, and finds the library that it brings there."""
-    python = next((it for it in (sys.executable, "/usr/bin/python3") if can(it, "import ensurepip, setuptools, wheel, venv")), None)
+    python = python_with("ensurepip", "setuptools", "wheel", "venv")
     if python is None:
         print("left out: the wheel, since setuptools are missing (packages: python3-venv, python3-setuptools, python3-wheel)")
         return 0, 0
@@ -128,22 +137,49 @@ def install(room: Path) -> Path:
     return static
 
 
+def cargo(room: Path, words: str, **own: str | Path) -> tuple[int, int]:
+    """How many tests of the crates cargo says passed, and whether it failed."""
+    plain = {it: value for it, value in os.environ.items() if it != "HUGEPOOL_LIB_DIR"} | {"CARGO_TARGET_DIR": str(room / "target")}
+    own = {it: str(value) for it, value in own.items()}
+    return counted(["cargo", *words.split(), "--offline", "--quiet"], LIBRARY / "rust", {**plain, **own})
+
+
 def try_rust(room: Path) -> tuple[int, int]:
     """The crates for Rust: linked statically, with a library that pkg-config finds, and with one that the linker finds; and their pages."""
     if shutil.which("cargo") is None:
         print("left out: the crates for Rust, since cargo is missing (package: cargo)")
         return 0, 0
     static, system = install(room), room / "system"
-    plain = {it: value for it, value in os.environ.items() if it != "HUGEPOOL_LIB_DIR"} | {"CARGO_TARGET_DIR": str(room / "target")}
-    finds = {"LD_LIBRARY_PATH": str(system)}
-    ways = [
-        ({"HUGEPOOL_LIB_DIR": str(static)}, "test"),
-        ({"PKG_CONFIG": "/bin/false", "LIBRARY_PATH": str(system), **finds}, "test"),
-        ({"RUSTDOCFLAGS": "-D warnings", "PKG_CONFIG": "/bin/false"}, "doc --no-deps"),
+    told = [
+        cargo(room, "test", HUGEPOOL_LIB_DIR=static),
+        cargo(room, "test", PKG_CONFIG="/bin/false", LIBRARY_PATH=system, LD_LIBRARY_PATH=system),
+        cargo(room, "doc --no-deps", RUSTDOCFLAGS="-D warnings", PKG_CONFIG="/bin/false"),
     ]
     if shutil.which("pkg-config"):
-        ways.append(({"PKG_CONFIG_PATH": str(system), **finds}, "test"))
-    told = [counted(["cargo", *words.split(), "--offline", "--quiet"], LIBRARY / "rust", {**plain, **own}) for own, words in ways]
+        told.append(cargo(room, "test", PKG_CONFIG_PATH=system, LD_LIBRARY_PATH=system))
+    return sum(passed for passed, _ in told), sum(failed for _, failed in told)
+
+
+def try_sanitized(room: Path) -> tuple[int, int]:
+    """The module's tests and the crates' over an instrumented library; and that wrong callers are reported."""
+    runtime, folder, tools = sanitized.runtime(), room / "instrumented", module.kit() / "toolchain"
+    if runtime is None:
+        print("left out: Rust and Python over an instrumented library, since the C compiler has no shared AddressSanitizer")
+        return 0, 0
+    try:
+        library = sanitized.build(module.kept(room, tools, "library").file, tools / "bin" / "clang", folder)
+    except archive.Failed as why:
+        print(why)
+        return 0, 1
+    options = sanitized.options(folder)
+    own = {"HUGEPOOL_LIBRARY": library, "LD_PRELOAD": runtime, "PYTHONMALLOC": "malloc", **options}
+    told = [sanitized.unreported(try_python(room, **own), folder)]
+    told += [sanitized.is_reported([sys.executable, "-c", code], LIBRARY / "python", own, folder, wanted) for code, wanted in sanitized.IN_PYTHON.items()]
+    if shutil.which("cargo"):
+        runs = {"CARGO_TARGET_X86_64_UNKNOWN_LINUX_GNU_RUNNER": f"env LD_PRELOAD={runtime}", **options}
+        own = {"PKG_CONFIG": "/bin/false", "LIBRARY_PATH": folder, "LD_LIBRARY_PATH": folder, **runs}
+        told.append(sanitized.unreported(cargo(room, "test --tests", **own), folder))
+        told.append(sanitized.is_reported(["cargo", "run", "--offline"], sanitized.crate(folder), own, folder, sanitized.OVERRUN))
     return sum(passed for passed, _ in told), sum(failed for _, failed in told)
 
 
@@ -335,7 +371,7 @@ def main() -> int:
             code, told, complaint = run(room / program, str(tries), seed)
             passed, failed = passed + (code == 0), failed + (code != 0)
             print(f"library: {told.decode() or complaint.decode()}", end="")
-        tries = (try_searches, try_find, try_exports, try_variables, try_noise, try_cpp, try_rust, try_python, try_wheel, try_page)
+        tries = [try_searches, try_find, try_exports, try_variables, try_noise, try_cpp, try_rust, try_python, try_sanitized, try_wheel, try_page]
         for tried in tries:
             well, wrong = tried(room)
             passed, failed = passed + well, failed + wrong

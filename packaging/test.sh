@@ -46,6 +46,9 @@ fi
 cp -L /etc/resolv.conf "$root/etc/resolv.conf"
 mkdir "$root/given"
 cp "$dist"/* "$top/packaging/test_inside.sh" "$top/packaging/test_zsh.zsh" "$root/given"
+# the crates for Rust, which no package has, as they lie in a clone
+mkdir -p "$root/given/library/rust"
+for it in Cargo.toml Cargo.lock hugepool hugepool-sys; do cp -r "$top/library/rust/$it" "$root/given/library/rust"; done
 # (what is mounted goes with the processes)
 unshare --mount --pid --fork -- chroot "$root" /usr/bin/env -i PATH=/usr/local/sbin:/usr/local/bin:/usr/sbin:/usr/bin:/sbin:/bin \
     HOME=/root LC_ALL=C.UTF-8 DEBIAN_FRONTEND=noninteractive bash /given/test_inside.sh

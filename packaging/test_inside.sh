@@ -114,6 +114,33 @@ says_what_is_proved() { grep -q '^commit [0-9a-f]\{40\}' "$1" && grep -q 'sha256
 # the program in the .tar.gz is the one whose checksum PROVED has
 is_the_proved_program() { grep -q "^hugepool, sha256 $(sha256sum < "$1" | cut -d' ' -f1)$" "$doc/PROVED"; }
 
+# A program in Rust that replays, by the crate that lies in /given.
+writes_in_rust() {
+    mkdir -p in-rust/src &&
+        printf '[package]\nname = "in-rust"\nversion = "0.0.0"\nedition = "2021"\n[dependencies]\nhugepool = { path = "%s" }\n' \
+            /given/library/rust/hugepool > in-rust/Cargo.toml &&
+        cat > in-rust/src/main.rs << 'END'
+use std::io::{stdin, Read};
+
+fn main() {
+    let mut trace = Vec::new();
+    stdin().read_to_end(&mut trace).unwrap();
+    print!("{}", hugepool::replay(&trace).unwrap());
+}
+END
+}
+
+# (each time anew: what cargo kept of another way to find the library would be taken)
+compiles_in_rust() {
+    rm -rf in-rust/target && env "$@" cargo build --quiet --offline --manifest-path in-rust/Cargo.toml &&
+        ldd in-rust/target/debug/in-rust | grep 'libhugepool.so.1 => /lib/' > /dev/null
+}
+
+# The crates' own tests, which read the traces where a clone has them
+passes_in_rust() {
+    ln -sfn $doc/examples /given/examples && CARGO_TARGET_DIR=/root/tests cargo test --quiet --offline --manifest-path /given/library/rust/Cargo.toml
+}
+
 # What bash offers for a line, by what the package bash-completion loads for the program.
 offers_in_bash() {
     bash -c '. /usr/share/bash-completion/bash_completion; wanted=$1; shift
@@ -185,6 +212,14 @@ try "the other finds and minimizes" finds ./find 'answer 1:1=SIGSEGV'
 try "the first compiles with the static library" compiles_statically
 try "it prints the same" prints_outcomes ./branches-static
 try "the library exports hugepool_ names alone" exports_only_its_calls
+
+try "cargo installs" installs cargo
+try "a program in Rust is written" writes_in_rust
+try "it compiles where pkg-config names the library" compiles_in_rust PKG_CONFIG=pkg-config
+try "it prints what stands beside the traces" replays_all in-rust/target/debug/in-rust
+try "it compiles where the linker finds the library, too" compiles_in_rust PKG_CONFIG=/bin/false
+try "it prints the same, too" replays_all in-rust/target/debug/in-rust
+try "the crates' own tests pass over the installed library" passes_in_rust
 
 try "shells install" installs bash-completion fish zsh
 try "bash: commands" offers_in_bash "explain explore" hugepool expl
