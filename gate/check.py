@@ -3,7 +3,7 @@
 usage: ./check [--install] [STEP] [..]
 
   ./check              all tests that need no proof: over the proved program if it is current, else over the one compiled without proof
-  ./check all          every proof, from nothing (rt ci); these tests; and the mutants that are due, but none behind the 160th minute
+  ./check all          every proof, from nothing (rt ci); these tests; and the mutants that are due, but none behind the 145th minute
   ./check proofs       the proofs alone
   ./check mutants [CRATE ..] [--all]
                        the mutants: wrong bodies that the prover must refuse; of crates that are named, of those that are due, or of all
@@ -30,6 +30,7 @@ import sys
 import tempfile
 import time
 from concurrent.futures import ThreadPoolExecutor, wait
+from pathlib import Path
 from typing import Callable, NamedTuple
 
 import programs
@@ -68,7 +69,10 @@ GROUPS = {
         ),
     ],
     "library": [*(Script(f"library/{it}.py", ("cc",)) for it in ("header", "abi")), Script("library/check.py", ("cc", LIBRARY))],
-    "documents": [Script(f"gate/{it}") for it in ("documents.py", "page.py", "proved.py", "mutants.py --apply")],
+    "documents": [
+        *(Script(f"gate/{it}") for it in ("documents.py", "index.py", "proved.py", "mutants.py --apply")),
+        *(Script(f"gate/{it}.mjs", ("node",)) for it in ("html_test", "html_clicks")),
+    ],
 }
 # the commands that scripts need, each with its Debian package; without the first nothing runs
 PACKAGES = {"rt": None, "git": "git", "find": "findutils", "cc": "gcc libc6-dev"}
@@ -79,7 +83,7 @@ COUNTS = re.compile(r"^(?:[\w ]+: )?(\d+) passed, (\d+) failed$", re.M)
 BEGAN = time.monotonic()
 # minutes of all proofs from nothing, behind which too little of three hours is left for those of the library once more; and those behind
 # which no mutant is tried any more
-LONG, ENOUGH = 90, 160
+LONG, ENOUGH = 90, 145
 # (without a network apt-get gives up soon)
 QUICKLY = ("-o", "Acquire::Retries=0", "-o", "Acquire::http::Timeout=10")
 
@@ -180,8 +184,8 @@ def proofs(gate: Gate, _: list[str]) -> bool:
         own = {**os.environ, "HUGEPOOL_BUILT_SINCE": began.name}
         subprocess.run([TOP / "hugepool", "--help"], env=own, stdout=subprocess.DEVNULL, check=True)
         # (what was written meanwhile is newer)
-        if program_of("hp_memory_tests").is_file():
-            os.utime(program_of("hp_memory_tests"), (os.stat(began.name).st_mtime,) * 2)
+        for it in filter(Path.is_file, map(program_of, ("hp_memory_tests", "hp_pool_bench"))):
+            os.utime(it, (os.stat(began.name).st_mtime,) * 2)
     return True
 
 

@@ -6,8 +6,8 @@ and end with status 1, and its output must be a front of the right one; where a 
 right. hp_memory_tests runs stories, which print each refusal and try again: everything else must be as with ample memory, to the end.
 
 At last it counts the threads that a command starts: one for each racing task and each call of a round on a running pool, anew behind each
-cut of a journal, and no other. It has Linux say how much memory is free, of which a search takes half. And it looks for races in which all
-tasks have calls in flight at once.
+cut of a journal, and no other. It has Linux say how much memory is free, of which a search takes half. It looks for races in which all
+tasks have calls in flight at once, and whether a task that waits for another's call sleeps (hp_pool_bench).
 """
 from __future__ import annotations
 
@@ -17,6 +17,7 @@ import shlex
 import subprocess
 import sys
 import tempfile
+import time
 import tomllib
 from bisect import bisect_left
 from concurrent.futures import ThreadPoolExecutor
@@ -25,8 +26,6 @@ from typing import Iterable, Iterator, NamedTuple
 
 from programs import TOP, WORDS, Ran, closed, commands, example, is_current, is_proved, program_of, report, run, status_of, tested
 
-# the status of a run that does not end
-HANGS = -1
 # (a race whose thread isn't made looks for it 20,000,000 times: 5 s, and beside many busy processes minutes)
 SECONDS = 1_800
 # no line of words has so many growths
@@ -68,7 +67,7 @@ class Program:
             try:
                 ran = run(self.path, words, given, env=own, pass_fds=[told.fileno()], timeout=SECONDS)
             except subprocess.TimeoutExpired:
-                ran = Ran(HANGS, "", f"it hasn't ended after {SECONDS} seconds")
+                ran = Ran(-1, "", f"it hasn't ended after {SECONDS} seconds")
             told.seek(0)
             return Told(*ran, told.read().decode())
 
@@ -176,11 +175,6 @@ def crowd(tasks: int) -> str:
     return "".join(f"{line}\n" for line in [*lines, "begin 1 trunc 0 2", "begin 2 punch 0 0 1"])
 
 
-def workloads() -> list[str]:
-    """The workloads that the program's help names."""
-    return re.findall(r"^  ([\w-]+) {2,}\w", run(tested(), "work --help").out.partition("The workloads")[2], re.M)
-
-
 # what a person writes: comments, repeated steps, and steps up to a phase
 LOOSE = "# by hand\n\npool 4 1 4 1\n begin 1 map 0 0 1\nstep 1 *3\nstep 1 until ended\nbegin 1 store 0 7\nstep 1 until taken\n"
 # a trace that is a script
@@ -210,7 +204,8 @@ def cases() -> Iterator[Case]:
     yield Case("minimize --answer 1:2=beyond", example("truncate-overtakes-a-store.trace"), status=2)
     for words in ("replay --help", "nothing", "replay --all", "explain --lines 4..3", "explain --tasks 65", "format", "step"):
         yield Case(words, LOOSE)
-    yield from (Case(f"work {name}", "") for name in workloads())
+    workloads = re.findall(r"^  ([\w-]+) {2,}\w", run(tested(), "work --help").out.partition("The workloads")[2], re.M)
+    yield from (Case(f"work {name}", "") for name in workloads)
     yield from (Case(f"work {name} --on pool", "", starts=True) for name in ("shared", "alloc-instantiate-race"))
     for words in ("explore --seed 7 --runs 3 --deny 100 --kill 10", "explore --summary --runs 3 --deny 100 --kill 10"):
         yield Case(words, script, starts=explores)
@@ -256,13 +251,10 @@ def faults(program: Program, case: Case | Story, pool: ThreadPoolExecutor) -> tu
     return len(several) - 1, found
 
 
-def even(tasks: int, calls: int) -> str:
-    """A script in which each task makes so many calls, none of which waits for another."""
-    return f"pool 1 1 1 {tasks}\n" + "".join(f"begin {task} load 0\n" for task in range(1, tasks + 1)) * calls
-
-
 def threads_tried(program: Program) -> Iterator[tuple[str, bool]]:
     """How many threads commands start. (The first thread races, too.)"""
+    # (no call of these scripts waits for another)
+    even = lambda tasks, calls: f"pool 1 1 1 {tasks}\n" + "".join(f"begin {task} load 0\n" for task in range(1, tasks + 1)) * calls
     tasks, calls, trace = 12, 6, example("calls-in-flight.trace")
     script, most, long = even(tasks, calls), even(64, 1), even(2, 2_002)
     rows = [("race --times 1", script, tasks - 1), ("race --times 3", script, 3 * (tasks - 1)), ("race --trace", script, tasks - 1)]
@@ -288,6 +280,16 @@ def halves_tried(program: Program) -> Iterator[tuple[str, bool]]:
             yield f"{words}: of {kib} KiB half are taken", told == wanted
 
 
+def sleeps(program: Path) -> bool:
+    """Whether a task that waits for another's call sleeps: in half a minute at some time no thread of the program ran for a quarter of a
+    second, and each slept."""
+    with subprocess.Popen([program], stdin=subprocess.PIPE, stdout=subprocess.DEVNULL) as waits:
+        files = lambda: Path(f"/proc/{waits.pid}/task").glob("*/status")
+        looked = lambda: [re.findall(r"^(?:State|\w+_switches):\s*(\w+)", it.read_text(), re.M) for it in files()]
+        looks = ((looked(), time.sleep(0.25), looked()) for _ in range(120))
+        return any(before == after and [it[0] for it in before] == ["S", "S"] for before, _, after in looks)
+
+
 def most_at_once(program: Path, script: str) -> int:
     """How many calls a race of this script has in flight at once, at the most."""
     trace = run(program, "race --trace", script).out
@@ -300,15 +302,12 @@ def most_at_once(program: Path, script: str) -> int:
     return most
 
 
-def growths(program: Program, words: str, read: str) -> int:
-    """How many growths a run has: the least number that isn't refused, less one."""
-    return bisect_left(range(MOST), True, lo=1, key=lambda number: not program.told(words, read, number).faults) - 1
-
-
 def audits_tried(program: Program) -> Iterator[tuple[str, bool]]:
     """Whether each run is audited, which takes memory for a picture after each turn. (Runs of one task are alike.)"""
     begins = "pool 64 1 64 1\nbegin 1 alloc 0 0 8\nbegin 1 punch 0 0 8\n"
-    more = lambda runs: growths(program, f"explore --audit --runs {runs}", begins) - growths(program, f"explore --runs {runs}", begins)
+    # (the least number that isn't refused)
+    growths = lambda words: bisect_left(range(MOST), True, lo=1, key=lambda number: not program.told(words, begins, number).faults)
+    more = lambda runs: growths(f"explore --audit --runs {runs}") - growths(f"explore --runs {runs}")
     one, four = more(1), more(4)
     yield f"each of four runs is audited ({one} growths for one, {four} for four)", four > 3 * one > 30
 
@@ -325,7 +324,7 @@ def refusals(program: Program, several: Iterable[Case | Story], pool: ThreadPool
 
 def tries(loaded: Path, pool: ThreadPoolExecutor) -> Iterator[tuple[str, bool]]:
     """What is tried, and whether it went as it should."""
-    program, teller = Program(tested(), loaded), Program(program_of("hp_memory_tests"), loaded)
+    program, teller, waits = Program(tested(), loaded), Program(program_of("hp_memory_tests"), loaded), program_of("hp_pool_bench")
     yield "each command is run", {words.split()[0] for several in WORDS.values() for words in several} >= {*commands()} - {"help"}
     if is_proved():
         yield from refusals(program, cases(), pool)
@@ -333,20 +332,17 @@ def tries(loaded: Path, pool: ThreadPoolExecutor) -> Iterator[tuple[str, bool]]:
         yield from halves_tried(program)
     else:
         print("left out: failed allocations of commands, and searches to their limits: they need the proved program")
-    if is_current(teller.path, "hp_memory_tests"):
+    if is_current(teller.path, "hp_memory_tests") and is_current(waits, "hp_pool_bench"):
         yield from refusals(teller, stories(), pool)
+        yield "a task that waits for another's call sleeps", sleeps(waits)
     else:
-        print("left out: failed allocations in scenarios (hp_memory_tests): they need its proved program (./check all)")
+        print("left out: failed allocations in scenarios, and a task that waits: they need proved programs of their own (./check all)")
     yield from threads_tried(program)
     for tasks in (2, 12, 64):
         is_so = any(most_at_once(program.path, crowd(tasks)) == tasks for _ in range(RACES))
         yield f"all {tasks} tasks of a race have calls in flight at once", is_so
 
 
-def main() -> int:
-    with tempfile.TemporaryDirectory(prefix="growths-") as name, ThreadPoolExecutor(os.cpu_count() or 1) as pool:
-        return report("growths", tries(library(Path(name)), pool))
-
-
 if __name__ == "__main__":
-    sys.exit(main())
+    with tempfile.TemporaryDirectory(prefix="growths-") as name, ThreadPoolExecutor(os.cpu_count() or 1) as pool:
+        sys.exit(report("growths", tries(library(Path(name)), pool)))

@@ -3,9 +3,9 @@
 
 A socket that keeps messages apart stands for the output, so that each write of the program is seen by itself. A replay tells what came
 of the lines that it has, while more may come. The most runs and races that may be asked for are made, and runs in shards
-(bench/explore-many.sh, with a stand-in for GNU parallel) are those of one exploration. Outcomes are coloured at a terminal, and nowhere
-else unless that is asked for. `hugepool step` reads and writes files, and asks for lines at a terminal. And what is said of each wrong
-field of a line is held to what is to be said (reasons.py).
+(bench/explore-many.sh, with a stand-in for GNU parallel) are those of one exploration, as is the sum of their tables. Outcomes are coloured
+at a terminal, and nowhere else unless that is asked for. `hugepool step` reads and writes files, and asks for lines at a terminal. And what
+is said of each wrong field of a line is held to what is to be said (reasons.py).
 """
 from __future__ import annotations
 
@@ -130,15 +130,13 @@ def colours() -> Iterator[tuple[str, bool]]:
         yield f"{command} isn't coloured", shown(command) == output(command, trace)
 
 
-def is_progress_shown(words: str, read: str, last: str) -> bool:
-    """Whether a search that takes long says at a terminal how far it is, each time in place of the time before, and then erases that; and
-    says nothing of it anywhere else."""
+def progress(words: str, read: str, last: str, line: str) -> list[int]:
+    """The numbers in the lines by which a search says at a terminal how far it is, each in place of the one before. There are none where it
+    doesn't erase the last, or says something of it anywhere else."""
     shown, out = at_terminal(("stderr",), words, read)
     alone = run(tested(), words, read)
-    told = re.findall(r"\r\x1b\[Khugepool: (\d+) of (\d+) runs, \d+ a second, \d+ (?:s|min) left", shown)
-    runs = [int(it) for it, _ in told]
-    is_erased = shown.endswith(f"left\r\x1b[K{last}")
-    return bool(told) and runs == sorted(runs) and is_erased and (alone.out, alone.err) == (out, last)
+    is_right = re.fullmatch(rf"(\r\x1b\[Khugepool: {line})+\r\x1b\[K{re.escape(last)}", shown) and (alone.out, alone.err) == (out, last)
+    return [*map(int, re.findall(r"hugepool: (\d+)", shown.removesuffix(last)))] if is_right else []
 
 
 def steps(folder: Path) -> Iterator[tuple[str, bool]]:
@@ -229,15 +227,19 @@ def tries(program: Path) -> Iterator[tuple[str, bool]]:
     enough = len("refused idle\n") * 50_000 - 32_768
     yield "a replay doesn't wait for the end of its trace", is_told_so_far(EMPTY + "step 1\n" * 50_000, enough)
     name, options = "truncate-against-store.script", ("--deny", "100", "--kill", "20")
-    for runs, shards in (("10", "3"), ("2", "5")):
-        at_once = output(f"explore --seed 7 --runs {runs} {' '.join(options)}", example(name))
-        is_same = in_shards(f"{TOP}/examples/{name}", "7", runs, shards, *options) == at_once
-        yield f"{runs} runs in {shards} shards are those of one exploration", is_same
-    # (long enough for a line of progress on any machine)
-    crowd, limit = example("64-backends-one-segment.script"), 20_000 if is_proved() else 200
+    for runs, shards, *more in (("10", "3"), ("2", "5"), ("40", "3", "--summary")):
+        at_once = output(f"explore --seed 7 --runs {runs} {' '.join([*more, *options])}", example(name))
+        is_same = in_shards(f"{TOP}/examples/{name}", "7", runs, shards, *more, *options) == at_once
+        yield f"{runs} runs in {shards} shards are those of one exploration {more}", is_same
+    # (long enough for lines of progress on any machine)
+    crowd, limit, calls = example("64-backends-one-segment.script"), *((20_000, 3_000) if is_proved() else (200, 60))
     never = f"hugepool: no run meets all conditions (runs explored: {limit})\n"
-    yield "a summary says at a terminal how far it is", is_progress_shown(f"explore --summary --runs {limit}", crowd, "")
-    yield "so does a search", is_progress_shown(f"find --answer 64:2=noframe --limit {limit}", crowd, never)
+    for words, last in (f"explore --summary --runs {limit}", ""), (f"find --answer 64:2=noframe --limit {limit}", never):
+        told = progress(words, crowd, last, rf"\d+ of {limit} runs, \d+ a second, \d+ (?:s|min) left")
+        yield f"{words} says at a terminal how far it is", bool(told) and told == sorted(told)
+    # (of three events of a call two are needed: the others go one by one)
+    told = progress(f"minimize --answer 1:{calls}=segv", EMPTY + "begin 1 load 0\nstep 1\nstep 1\n" * calls, "", r"\d+ events left, \d{1,3} s")
+    yield f"so does minimize: {told}", len(told) > 1 and 3 * calls >= told[0] > told[-1] >= 2 * calls and told == sorted(told, reverse=True)
     yield "by ./hugepool help has its name, too", run(TOP / "hugepool", "race --help").out == output("race --help", "")
     yield from colours()
     yield from looks()

@@ -132,11 +132,7 @@ def tries(copy: Path, pool: ThreadPoolExecutor) -> Iterator[tuple[str, bool]]:
     yield from flushes(copy)
 
 
-def main() -> int:
+if __name__ == "__main__":
     with tempfile.TemporaryDirectory(prefix="unproved-") as room, ThreadPoolExecutor(2) as pool:
         copy = Path(shutil.copytree(TOP, Path(room) / "copy", ignore=LEFT_OUT))
-        return report("unproved", tries(copy, pool))
-
-
-if __name__ == "__main__":
-    sys.exit(main())
+        sys.exit(report("unproved", tries(copy, pool)))
