@@ -191,7 +191,7 @@ def cases() -> Iterator[Case]:
         yield Case("replay", trace, lines=trace.count("\n") - 1)
     yield Case("replay", example("a-bad-line.trace"))
     yield Case("draw", example("quota-goes-to-the-map.trace"))
-    reads = {"trace": wide, "script": script, "picture": PICTURE, "": ""}
+    reads = {"trace": wide, "script": script, "picture": PICTURE, "nothing": ""}
     # (where there is one processor runs are explored by no second thread)
     explores = (os.cpu_count() or 1) > 1
     for kind, words in ((kind, words) for kind, several in WORDS.items() for words in several):

@@ -6,6 +6,7 @@ import re
 import shlex
 import subprocess
 import sys
+import tomllib
 from functools import cache
 from pathlib import Path
 from typing import Iterable, NamedTuple
@@ -14,23 +15,9 @@ TOP = Path(__file__).resolve().parent.parent
 # (the gate shares the launcher's modules)
 sys.path.append(str(TOP / "launcher"))
 
-
 # words with which each command writes something, by what it reads
-WORDS = {
-    "trace": (
-        *("replay", "replay --json", "replay --picture", "explain", "explain --compact --linux --tasks 1 --lines 2..3"),
-        *("explain --json --lines 2..3", "draw", "draw --html", "check", "check --json", "format", "step"),
-        "minimize --final resv=0 --anywhere",
-    ),
-    "script": (
-        *("explore --runs 2", "explore --summary --runs 2", "schedule", "race --times 2", "race --trace"),
-        *("find --final resv=1", "find --every --final resv=1", "explore --every --json", "find --json --final resv=1"),
-    ),
-    "picture": ("audit", "audit --json"),
-    "": ("work readback", "work readback --json", "work readback --trace", "--help"),
-}
-
-
+TABLES = [tomllib.loads(it.read_text(encoding="utf-8")).get("everywhere", {}) for it in sorted((TOP / "examples" / "commands").glob("*.toml"))]
+WORDS = {kind: [words for it in TABLES for words in it.get(kind, ())] for kind in ("trace", "script", "picture", "nothing")}
 RACED = re.compile(r"run (\d+) closed entries (\d+) free (\d+) resv (\d+)")
 
 
