@@ -1,5 +1,5 @@
 pub mod Colouring
-pub mod Outputs
 pub mod Requests
+pub mod Shown
 pub mod Status
 pub mod Words

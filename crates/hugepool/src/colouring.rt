@@ -1,8 +1,9 @@
 //! When words are coloured: what `--color` says, and what is known of the terminal.
 ghost use Rattle.std.specs.Prelude.{◌≡◌};
-ghost use Rattle.hugepool.specs.Colouring.{paints, palette_of, palette_of_pool, palette_of_script, palette_of_trace};
+ghost use Rattle.hugepool.specs.Colouring.{paints};
 
-use hp_command::{Asked, PoolRequest, Racing, Request, ScriptRequest, TraceRequest, When};
+use crate::shown::shown_at;
+use hp_command::{Asked, When};
 use hp_paint::Palette;
 use std::env;
 use std::env::VarError;
@@ -16,62 +17,6 @@ struct Surroundings {
     no_color: bool,
     /// `TERM` is `dumb`.
     is_dumb: bool,
-}
-
-// The words that are coloured in what is written of a trace, if any are.
-fn palette_of_trace(request: &TraceRequest) -> Option<Palette>
-    ensures { result ≡ palette_of_trace request.now }
-{
-    match request {
-        TraceRequest::Replay | TraceRequest::Explain(_) => Some(Palette::Outcomes),
-        TraceRequest::State
-        | TraceRequest::Check
-        | TraceRequest::ExplainJson(_)
-        | TraceRequest::Draw
-        | TraceRequest::Page
-        | TraceRequest::Format => None,
-    }
-}
-
-// The words that are coloured in what is written of a script's runs, if any are.
-fn palette_of_script(request: &ScriptRequest) -> Option<Palette>
-    ensures { result ≡ palette_of_script request.now }
-{
-    match request {
-        ScriptRequest::Explore(_) => Some(Palette::Runs),
-        ScriptRequest::Summarize(_) => Some(Palette::Outcomes),
-        ScriptRequest::Race(Racing::Times { .. }) => Some(Palette::Races),
-        ScriptRequest::Race(Racing::Trace { .. })
-        | ScriptRequest::ExploreEvery(_)
-        | ScriptRequest::Schedule(_)
-        | ScriptRequest::ScheduleEvery(_)
-        | ScriptRequest::Find(_)
-        | ScriptRequest::FindEvery(_)
-        | ScriptRequest::Minimize(_) => None,
-    }
-}
-
-// The words that are coloured in what is written of a pool, if any are.
-fn palette_of_pool(request: &PoolRequest) -> Option<Palette>
-    ensures { result ≡ palette_of_pool request.now }
-{
-    match request {
-        PoolRequest::Step { .. } => Some(Palette::Outcomes),
-        PoolRequest::Work { .. } => Some(Palette::Work),
-        PoolRequest::TraceWork { .. } => None,
-    }
-}
-
-// The words that are coloured in what is written at a request, if any are.
-fn palette_of(request: &Request) -> Option<Palette>
-    ensures { result ≡ palette_of request.now }
-{
-    match request {
-        Request::Trace(request) => palette_of_trace(request),
-        Request::Script(request) => palette_of_script(request),
-        Request::Pool(request) => palette_of_pool(request),
-        Request::Audit => None,
-    }
 }
 
 // Whether words are coloured there.
@@ -117,7 +62,7 @@ pub(crate) fn chosen_palette(
 ) -> Option<Palette> {
     match asked {
         Ok(asked) if !asked.is_json && paints(asked.colours, look_around(rt)) => {
-            palette_of(&asked.request)
+            shown_at(&asked.request).palette
         }
         _ => None,
     }

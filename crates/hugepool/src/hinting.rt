@@ -298,10 +298,8 @@ fn of_trace(request: &TraceRequest) -> Hints {
     let (reads, shows_run) = match request {
         TraceRequest::Replay | TraceRequest::Explain(_) | TraceRequest::Draw | TraceRequest::Page =>
             (Reads::Trace, true),
-        TraceRequest::State | TraceRequest::Check | TraceRequest::ExplainJson(_) => {
-            (Reads::Trace, false)
-        }
         TraceRequest::Format => (Reads::Other, false),
+        _ => (Reads::Trace, false),
     };
     Hints {
         reads,
