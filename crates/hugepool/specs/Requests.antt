@@ -41,7 +41,7 @@ abbrev pub EndsWith : {A : Type 0} → (status_of : A → ℕ) → (status : ℕ
 EndsWith {A} status_of status P = (answer : A) × (status ≡ status_of answer) × P answer
 
 -- how it ends at each request for something to be done with a trace
-abbrev pub EndsTrace : TraceRequest → (status : ℕ) → (from to : Option (List ℕ)) → (old new : ℕ)
+unfoldable pub EndsTrace : TraceRequest → (status : ℕ) → (from to : Option (List ℕ)) → (old new : ℕ)
     → (before : Option (List ℕ)) → (after : Option (Option (List ℕ))) → Type 0
 EndsTrace trace.Replay status from to old new before after =
     EndsWith status_of_text status (λ answer. DidReplay answer from to old new before after)
@@ -61,7 +61,7 @@ EndsTrace trace.Format status from to old new before after =
     EndsWith status_of_format status (λ answer. AnsweredFormat answer from to old new before after)
 
 -- with a script, or with a trace that a run of one left
-abbrev pub EndsScript : ScriptRequest → (status : ℕ) → (from to : Option (List ℕ)) → (old new : ℕ)
+unfoldable pub EndsScript : ScriptRequest → (status : ℕ) → (from to : Option (List ℕ)) → (old new : ℕ)
     → (before : Option (List ℕ)) → (after : Option (Option (List ℕ))) → Type 0
 EndsScript (script.Explore e) status from to old new before after =
     EndsWith status_of_runs status (λ answer. AnsweredExplore e answer from to old new before after)
@@ -83,7 +83,7 @@ EndsScript (script.Race r) status from to old new before after =
     EndsWith status_of_runs status (λ answer. AnsweredRace r answer from to old new before after)
 
 -- with a pool that runs
-abbrev pub EndsPool : PoolRequest → (status : ℕ) → (from to : Option (List ℕ)) → (old new : ℕ)
+unfoldable pub EndsPool : PoolRequest → (status : ℕ) → (from to : Option (List ℕ)) → (old new : ℕ)
     → (before : Option (List ℕ)) → (after : Option (Option (List ℕ))) → Type 0
 EndsPool (pool.Step file is_typed) status from to old new before after =
     EndsWith status_of_text status (λ answer. AnsweredStep answer old new after)
@@ -95,7 +95,7 @@ EndsPool (pool.TraceWork name driver) status from to old new before after =
     × IfThere after (AnsweredTrace (record { name = name; driver = driver }) answer before))
 
 -- how it ends at each request
-abbrev pub Ends : Request → (status : ℕ) → (from to : Option (List ℕ)) → (old new : ℕ) → (before : Option (List ℕ))
+unfoldable pub Ends : Request → (status : ℕ) → (from to : Option (List ℕ)) → (old new : ℕ) → (before : Option (List ℕ))
     → (after : Option (Option (List ℕ))) → Type 0
 Ends (Trace r) status from to old new before after = EndsTrace r status from to old new before after
 Ends (Script r) status from to old new before after = EndsScript r status from to old new before after

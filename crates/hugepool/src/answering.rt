@@ -61,6 +61,7 @@ fn hunted<W>(
 }
 
 // What is answered to a request for something to be done with a trace.
+#[tactic(auto, unfolding(crate::specs::Requests::EndsTrace))]
 fn answer_trace<R: Source, W: Write + Drop>(
     alloc: Global,
     request: TraceRequest,
@@ -86,6 +87,7 @@ fn answer_trace<R: Source, W: Write + Drop>(
 }
 
 // What is answered to a request for the table of all endings.
+#[tactic(auto, unfolding(crate::specs::Requests::EndsScript))]
 fn answer_table<H: Clock + Threads + Sync, R: Source, W: Write + Drop>(
     rt: &H,
     alloc: Global,
@@ -103,6 +105,7 @@ fn answer_table<H: Clock + Threads + Sync, R: Source, W: Write + Drop>(
 }
 
 // What is answered to a request for a schedule of one line of that table.
+#[tactic(auto, unfolding(crate::specs::Requests::EndsScript))]
 fn answer_choice<H: Clock + Threads + Sync, R: Source, W: Write + Drop>(
     rt: &H,
     alloc: Global,
@@ -120,6 +123,7 @@ fn answer_choice<H: Clock + Threads + Sync, R: Source, W: Write + Drop>(
 }
 
 // What is answered to a request for a search among all schedules.
+#[tactic(auto, unfolding(crate::specs::Requests::EndsScript))]
 fn answer_search<H: Clock + Threads + Sync, R: Source, W: Write + Drop>(
     rt: &H,
     alloc: Global,
@@ -137,6 +141,7 @@ fn answer_search<H: Clock + Threads + Sync, R: Source, W: Write + Drop>(
 }
 
 // What is answered to a request for something to be done with a script, or with a trace that a run of one left.
+#[tactic(auto, unfolding(crate::specs::Requests::EndsScript))]
 fn answer_script<H: Clock + Threads + Wait + Sync, R: Source, W: Write + Drop>(
     rt: &H,
     alloc: Global,
@@ -185,6 +190,7 @@ fn answer_script<H: Clock + Threads + Wait + Sync, R: Source, W: Write + Drop>(
 }
 
 // What is answered to a request for something to be done with a pool that runs.
+#[tactic(auto, unfolding(crate::specs::Requests::EndsPool))]
 fn answer_pool<H: Clock + Files + Threads + Wait + Sync, R: Source, W: Write + Drop>(
     rt: &H,
     alloc: Global,
@@ -215,6 +221,7 @@ fn answer_pool<H: Clock + Files + Threads + Wait + Sync, R: Source, W: Write + D
 }
 
 /// What is answered to a request, and the output, unless it went with a buffer for which there was no memory.
+#[tactic(auto, unfolding(crate::specs::Requests::Ends))]
 pub(crate) fn answer<H: Clock + Files + Threads + Wait + Sync, R: Source, W: Write + Drop>(
     rt: &H,
     alloc: Global,
