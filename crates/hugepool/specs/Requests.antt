@@ -7,18 +7,14 @@ use Rattle.clap.specs.declared.error.kind.ErrorKind.TheVariants.{OutOfMemory, Di
 use Rattle.hp_command.specs.declared.request.Asked.{Asked}
 use Rattle.hp_command.specs.declared.request.Request.{Request}
 use Rattle.hp_command.specs.declared.request.Request.TheVariants.{Trace, Script, Pool, Audit}
-use Rattle.hp_command.specs.declared.request.TraceRequest.{TraceRequest}
-use Rattle.hp_command.specs.declared.request.TraceRequest.TheVariants as trace
 use Rattle.hp_command.specs.declared.request.ScriptRequest.{ScriptRequest}
 use Rattle.hp_command.specs.declared.request.ScriptRequest.TheVariants as script
 use Rattle.hp_command.specs.declared.request.PoolRequest.{PoolRequest}
 use Rattle.hp_command.specs.declared.request.PoolRequest.TheVariants as pool
 use Rattle.hp_picture_commands.specs.Auditing.{AnsweredAudit, status_of_audit}
-use Rattle.hp_picture_commands.specs.States.{AnsweredState}
 use Rattle.hp_pool_commands.specs.Stepping.{AnsweredStep}
 use Rattle.hp_pool_commands.specs.Working.{AnsweredTrace, AnsweredWork, status_of_work}
 use Rattle.hp_program.specs.Answers.{IfThere, status_of_runs, status_of_text}
-use Rattle.hp_program.specs.Endings.{DidReplay}
 use Rattle.hp_script_commands.specs.Choosing.{AnsweredChoice}
 use Rattle.hp_script_commands.specs.Hunting.{AnsweredFind, AnsweredMinimize, status_of_hunt}
 use Rattle.hp_script_commands.specs.Runs.{AnsweredExplore, AnsweredRace, AnsweredSchedule, AnsweredSummary}
@@ -28,39 +24,17 @@ use Rattle.hp_text.specs.declared.fault.ReplayFault.{ReplayFault}
 use Rattle.hp_text.specs.declared.fault.ReplayFault.TheVariants.{Write}
 use Rattle.hp_format.specs.Loose.{loose_at}
 use Rattle.hp_format.specs.declared.fault.LooseFault.{LooseFault}
-use Rattle.hp_trace_commands.specs.Formatting.{AnsweredFormat, status_of_format}
 use Rattle.hp_trace_commands.specs.Strict.{IsUnread, ReadsStrict}
-use Rattle.hugepool.specs.Status.{searches, status_of_loose}
-use Rattle.hp_trace_commands.specs.Traces.{AnsweredCheck, AnsweredDraw, AnsweredExplain, AnsweredJson, AnsweredHtmlPage}
+use Rattle.hugepool.specs.Status.{EndsWith, searches, status_of_loose}
+use Rattle.hugepool.specs.Shown.{shown_as, shown_of_pool, shown_of_script}
+use Rattle.hugepool.specs.Traces.{EndsTrace, shown_of_trace}
+use Rattle.hugepool.specs.declared.shown.Shown.{Shown}
+use Rattle.hp_objects.specs.declared.places.Output.TheVariants as output
 
 -- A reader had the bytes `from` left, and now has `to`; whether it had failed, and whether it has now; an output held `before`, and now
 -- holds `after`.
 
--- the status with which the program ends is that of an answer of which P holds
-abbrev pub EndsWith : {A : Type 0} → (status_of : A → ℕ) → (status : ℕ) → (A → Type 0) → Type 0
-EndsWith {A} status_of status P = (answer : A) × (status ≡ status_of answer) × P answer
-
--- how it ends at each request for something to be done with a trace
-unfoldable pub EndsTrace : TraceRequest → (status : ℕ) → (from to : Option (List ℕ)) → (old new : ℕ)
-    → (before : Option (List ℕ)) → (after : Option (Option (List ℕ))) → Type 0
-EndsTrace trace.Replay status from to old new before after =
-    EndsWith status_of_text status (λ answer. DidReplay answer from to old new before after)
-EndsTrace trace.State status from to old new before after =
-    EndsWith status_of_text status (λ answer. AnsweredState answer from to old new before after)
-EndsTrace trace.Check status from to old new before after =
-    EndsWith status_of_text status (λ answer. AnsweredCheck answer from to old new before after)
-EndsTrace (trace.Explain v) status from to old new before after =
-    EndsWith status_of_text status (λ answer. AnsweredExplain v answer from to old new before after)
-EndsTrace (trace.ExplainJson v) status from to old new before after =
-    EndsWith status_of_text status (λ answer. AnsweredJson v answer from to old new before after)
-EndsTrace trace.Draw status from to old new before after =
-    EndsWith status_of_text status (λ answer. AnsweredDraw answer from to old new before after)
-EndsTrace trace.Page status from to old new before after =
-    EndsWith status_of_text status (λ answer. AnsweredHtmlPage answer from to old new before after)
-EndsTrace trace.Format status from to old new before after =
-    EndsWith status_of_format status (λ answer. AnsweredFormat answer from to old new before after)
-
--- with a script, or with a trace that a run of one left
+-- how it ends at each request for something to be done with a script, or with a trace that a run of one left
 unfoldable pub EndsScript : ScriptRequest → (status : ℕ) → (from to : Option (List ℕ)) → (old new : ℕ)
     → (before : Option (List ℕ)) → (after : Option (Option (List ℕ))) → Type 0
 EndsScript (script.Explore e) status from to old new before after =
@@ -157,3 +131,10 @@ abbrev pub EndsAsAsked : Result Asked Error → (status : ℕ) → (from to : Op
 EndsAsAsked asked status from to old new before after =
     IfOk asked (λ it. EndsRead it.is_loose it.request status from to old new before after)
     × IfErr asked (λ error. EndsUnasked error status from to old new before after)
+
+-- how what is written at each request is shown
+abbrev pub shown_at : Request → Shown
+shown_at (Trace r) = shown_of_trace r
+shown_at (Script r) = shown_of_script r
+shown_at (Pool r) = shown_of_pool r
+shown_at Audit = shown_as None (Some output.Audit)

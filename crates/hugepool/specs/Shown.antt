@@ -1,10 +1,6 @@
--- How what is written at each request is shown: the words that are coloured, and whose lines are written as objects of JSON.
+-- How what is written of scripts and pools is shown: the words that are coloured, and whose lines are written as objects of JSON.
 use Rattle.std.specs.Prelude.{Option, Some, None}
 use Rattle.hugepool.specs.declared.shown.Shown.{Shown}
-use Rattle.hp_command.specs.declared.request.Request.{Request}
-use Rattle.hp_command.specs.declared.request.Request.TheVariants.{Trace, Script, Pool, Audit}
-use Rattle.hp_command.specs.declared.request.TraceRequest.{TraceRequest}
-use Rattle.hp_command.specs.declared.request.TraceRequest.TheVariants as trace
 use Rattle.hp_command.specs.declared.request.ScriptRequest.{ScriptRequest}
 use Rattle.hp_command.specs.declared.request.ScriptRequest.TheVariants as script
 use Rattle.hp_command.specs.declared.request.PoolRequest.{PoolRequest}
@@ -20,24 +16,12 @@ use Rattle.hp_paint.specs.declared.palette.Palette.TheVariants.{Outcomes, Runs, 
 abbrev pub shown_as : Option Palette → Option Output → Shown
 shown_as palette output = record { palette = palette; output = output }
 
--- pictures, pages, traces, counts and lines of JSON have no words to be coloured; `explain` and `replay` have objects of their own, and
--- pictures, pages and states have no lines for programs
-abbrev pub shown_of_trace : TraceRequest → Shown
-shown_of_trace trace.Replay = shown_as (Some Outcomes) None
-shown_of_trace trace.State = shown_as None None
-shown_of_trace trace.Check = shown_as None (Some output.Check)
-shown_of_trace (trace.Explain view) = shown_as (Some Outcomes) None
-shown_of_trace (trace.ExplainJson view) = shown_as None None
-shown_of_trace trace.Draw = shown_as None None
-shown_of_trace trace.Page = shown_as None None
-shown_of_trace trace.Format = shown_as None None
-
 -- lines of races have words to be coloured, and the trace of one has none
 abbrev pub shown_of_racing : Racing → Shown
 shown_of_racing (racing.Times times cut chances) = shown_as (Some Races) (Some output.Race)
 shown_of_racing (racing.Trace chances) = shown_as None (Some output.Race)
 
--- nor have traces that are written of a script's runs
+-- nor have other traces that are written of a script's runs
 abbrev pub shown_of_script : ScriptRequest → Shown
 shown_of_script (script.Explore exploration) = shown_as (Some Runs) (Some output.Explore)
 shown_of_script (script.Summarize survey) = shown_as (Some Outcomes) (Some output.Explore)
@@ -54,10 +38,3 @@ abbrev pub shown_of_pool : PoolRequest → Shown
 shown_of_pool (pool.Step file is_typed) = shown_as (Some Outcomes) None
 shown_of_pool (pool.Work name driver) = shown_as (Some Work) (Some output.Work)
 shown_of_pool (pool.TraceWork name driver) = shown_as None (Some output.WorkTrace)
-
--- what is written at each request
-abbrev pub shown_at : Request → Shown
-shown_at (Trace r) = shown_of_trace r
-shown_at (Script r) = shown_of_script r
-shown_at (Pool r) = shown_of_pool r
-shown_at Audit = shown_as None (Some output.Audit)

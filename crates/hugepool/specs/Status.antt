@@ -1,5 +1,5 @@
 -- The status with which the program ends.
-use Rattle.std.specs.Prelude.{ℕ, ◌==◌, Bool, true, false, Result, Ok, Err, if◌then◌else◌}
+use Rattle.std.specs.Prelude.{◌≡◌, ℕ, ◌==◌, Bool, true, false, Result, Ok, Err, if◌then◌else◌}
 use Rattle.hp_command.specs.declared.request.Request.{Request}
 use Rattle.hp_command.specs.declared.request.Request.TheVariants as request
 use Rattle.hp_command.specs.declared.request.ScriptRequest.{ScriptRequest}
@@ -66,3 +66,7 @@ status_unopened (request.Trace r) = 1
 status_unopened (request.Script r) = status_of_loose (searches_script r)
 status_unopened (request.Pool r) = 1
 status_unopened request.Audit = 2
+
+-- the status with which the program ends is that of an answer of which P holds
+abbrev pub EndsWith : {A : Type 0} → (status_of : A → ℕ) → (status : ℕ) → (A → Type 0) → Type 0
+EndsWith {A} status_of status P = (answer : A) × (status ≡ status_of answer) × P answer

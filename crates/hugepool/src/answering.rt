@@ -1,28 +1,25 @@
-//! What is answered to each request: by the commands' own crates, a function for each kind.
+//! What is answered to each request: by the commands' own crates, a function for each kind (of traces in `traces.rt`).
 ghost use Rattle.std.specs.Prelude.{◌≡◌};
 ghost use Rattle.std.specs.Option.{option_map};
 ghost use Rattle.hp_program.specs.Answers.{status_of_runs, status_of_text};
 ghost use Rattle.hp_script_commands.specs.Hunting.{status_of_hunt};
 ghost use Rattle.hp_command.specs.declared.request.ScriptRequest.TheVariants as script;
-ghost use Rattle.hugepool.specs.Requests.{Ends, EndsPool, EndsScript, EndsTrace};
+ghost use Rattle.hugepool.specs.Requests.{Ends, EndsPool, EndsScript};
 ghost use Rattle.hugepool.specs.Status.{status_at};
 
 use crate::stop::{
-    Missed, Stop, stop_of_audit, stop_of_every, stop_of_format, stop_of_hunt, stop_of_runs,
-    stop_of_table, stop_of_text, stop_of_work,
+    Missed, Stop, stop_of_audit, stop_of_every, stop_of_hunt, stop_of_runs, stop_of_table,
+    stop_of_text, stop_of_work,
 };
-use hp_command::{
-    EndingChoice, EveryBounds, EverySearch, PoolRequest, Request, ScriptRequest, TraceRequest,
-};
-use hp_picture_commands::{run_audit, run_state};
+use crate::traces::answer_trace;
+use hp_command::{EndingChoice, EveryBounds, EverySearch, PoolRequest, Request, ScriptRequest};
+use hp_picture_commands::run_audit;
 use hp_pool_commands::{Stepping, WorkWords, run_step, run_trace_work, run_work};
-use hp_program::run_replay;
 use hp_script_commands::{
     Report, run_explore, run_explore_every, run_find, run_find_every, run_minimize, run_race,
     run_schedule, run_schedule_every, run_summarize,
 };
 use hp_text::{ReplayFault, Source};
-use hp_trace_commands::{run_check, run_draw, run_explain, run_explain_json, run_format, run_page};
 use std::alloc::Global;
 use std::io::Write;
 use std::rt::Files;
@@ -30,8 +27,8 @@ use std::sync::Wait;
 use std::thread::Threads;
 use std::time::Clock;
 
-// What a command that writes a text answers, and its output.
-fn text<W>(ran: (Result<(), ReplayFault>, Option<W>)) -> (Result<(), Stop>, Option<W>)
+/// What a command that writes a text answers, and its output.
+pub(crate) fn text<W>(ran: (Result<(), ReplayFault>, Option<W>)) -> (Result<(), Stop>, Option<W>)
     ensures stop { status_at result.0 ≡ status_of_text ran.0 }
     ensures out { result.1 ≡ ran.1 }
 {
@@ -58,32 +55,6 @@ fn hunted<W>(
     ensures out { result.1 ≡ ran.1 }
 {
     (stop_of_hunt(ran.0, missed), ran.1)
-}
-
-// What is answered to a request for something to be done with a trace.
-#[tactic(auto, unfolding(crate::specs::Requests::EndsTrace))]
-fn answer_trace<R: Source, W: Write + Drop>(
-    alloc: Global,
-    request: TraceRequest,
-    reader: &mut R,
-    out: W,
-) -> (Result<(), Stop>, Option<W>)
-    ensures { EndsTrace request (status_at result.0) (R.remaining reader.old) (R.remaining reader.new) (R.failures reader.old)
-        (R.failures reader.new) (W.contents out) (option_map W.contents result.1) }
-{
-    match request {
-        TraceRequest::Replay => text(run_replay(alloc, reader, out)),
-        TraceRequest::State => text(run_state(alloc, reader, out)),
-        TraceRequest::Check => text(run_check(alloc, reader, out)),
-        TraceRequest::Explain(view) => text(run_explain(alloc, &view, reader, out)),
-        TraceRequest::ExplainJson(view) => text(run_explain_json(alloc, &view, reader, out)),
-        TraceRequest::Draw => text(run_draw(alloc, reader, out)),
-        TraceRequest::Page => text(run_page(alloc, reader, out)),
-        TraceRequest::Format => {
-            let (formatted, out) = run_format(alloc, reader, out);
-            (stop_of_format(formatted), out)
-        }
-    }
 }
 
 // What is answered to a request for the table of all endings.

@@ -13,6 +13,7 @@ mod memory;
 mod program;
 mod shown;
 mod stop;
+mod traces;
 mod words;
 
 use colouring::chosen_palette;

@@ -1,8 +1,10 @@
 //! How what is written at a request is shown: the words that are coloured, and whose lines are written as objects of JSON.
 ghost use Rattle.std.specs.Prelude.{◌≡◌};
-ghost use Rattle.hugepool.specs.Shown.{shown_as, shown_at, shown_of_pool, shown_of_script, shown_of_trace};
+ghost use Rattle.hugepool.specs.Requests.{shown_at};
+ghost use Rattle.hugepool.specs.Shown.{shown_as, shown_of_pool, shown_of_script};
 
-use hp_command::{Asked, PoolRequest, Racing, Request, ScriptRequest, TraceRequest};
+use crate::traces::shown_of_trace;
+use hp_command::{Asked, PoolRequest, Racing, Request, ScriptRequest};
 use hp_objects::Output;
 use hp_paint::Palette;
 
@@ -13,28 +15,11 @@ pub(crate) struct Shown {
     pub(crate) output: Option<Output>,
 }
 
-// So it is shown.
-fn shown_as(palette: Option<Palette>, output: Option<Output>) -> Shown
+/// So it is shown.
+pub(crate) fn shown_as(palette: Option<Palette>, output: Option<Output>) -> Shown
     ensures { result ≡ shown_as palette output }
 {
     Shown { palette, output }
-}
-
-// What is written of a trace.
-fn shown_of_trace(request: &TraceRequest) -> Shown
-    ensures { result ≡ shown_of_trace request.now }
-{
-    match request {
-        TraceRequest::Replay | TraceRequest::Explain(_) => {
-            shown_as(Some(Palette::Outcomes), None)
-        }
-        TraceRequest::Check => shown_as(None, Some(Output::Check)),
-        TraceRequest::State
-        | TraceRequest::ExplainJson(_)
-        | TraceRequest::Draw
-        | TraceRequest::Page
-        | TraceRequest::Format => shown_as(None, None),
-    }
 }
 
 // What is written of a script.
