@@ -1,5 +1,5 @@
 // A card for each task: its call, for whom it waits and since when, and what it may do next. Those in sight say at once what is so; the
-// others follow once nothing else is asked for.
+// others follow once nothing else is asked for, or when they are pressed.
 
 // so many new cards are shown at once wherever they stand: of these the browser says only later whether they are in sight
 const FIRST_CARDS = 12;
@@ -203,14 +203,21 @@ function noteSight(entries) {
   }
 }
 
-/** Has some cards say what is so now, and the others a moment later. */
+/** Puts the cards into their places, or has some of them say what is so now; the others a moment later. */
 function followCards() {
-  if (library.run) for (const task of [...stale].slice(0, SLICE)) showCard(task);
+  if (library.run && !areLaid) layTasks();
+  else if (library.run) for (const task of [...stale].slice(0, SLICE)) showCard(task);
   followSoon(0);
 }
 
-/** Has the cards out of sight follow after so many milliseconds. */
+/** Has what is out of sight follow after so many milliseconds. */
 function followSoon(pause = FOLLOWING) {
   clearTimeout(following);
-  if (library.run && stale.size > 0) following = setTimeout(followCards, pause);
+  if (library.run && (stale.size > 0 || !areLaid)) following = setTimeout(followCards, pause);
+}
+
+/** A card that is pressed out of sight, by its name, says first what is so. */
+function freshen(pressed) {
+  const task = Number(pressed.closest(".task")?.dataset.task ?? 0);
+  if (stale.has(task) && library.run) showCard(task);
 }

@@ -490,6 +490,19 @@ async function tryFolds() {
   await expect("it is a card again, as are the others", `${isAt(4, 6)} && document.querySelectorAll("#folds .fold").length === 0 && document.activeElement.closest(".task")?.dataset.task === "5"`);
 }
 
+/** Tasks out of sight follow a little later, and a button that is pressed there by its name is as it is now. */
+async function tryUnseen() {
+  await open("#two-maps-one-lock@5");
+  await expect("a step that is off", isOff(turn("step", 2)));
+  await act(`document.getElementById("proof").scrollIntoView();`);
+  await browser.run("new Promise((done) => setTimeout(done, 200))"); // (in which the browser says what is in sight)
+  await act(`${slide(10)}; ${turnOf("step", 2)}`);
+  await expect("it is on where its task waits no more", `${isAt(11, 11)} && ${now("After line 12, step 2: moved room")}`);
+  await expect("its card follows", `${text(`${card(2)} .call`)} === "map 0 1 3 in room"`);
+  await act(`${press("undo")}; window.scrollTo(0, 0);`);
+  await expect("so does one that comes into sight", `${isAt(10, 17)} && ${text(`${card(2)} .call`)} === "map 0 1 3 in start"`);
+}
+
 /** The text in its field follows a little later, but not what is typed there. */
 async function tryText() {
   const has = (lines) => `document.getElementById("text").value.startsWith(${JSON.stringify(lines.join("\n"))})`;
@@ -571,7 +584,7 @@ async function tryRoles() {
 const asked = process.env.TRIES?.split(" ").map((it) => `try${it}`);
 await inBrowsers(async (...it) => {
   [browser, kind] = it;
-  const all = [tryMoves, tryPicture, tryEvents, tryFields, tryTexts, tryWaits, tryPlaying, tryAddresses, tryFiles, tryConditions, tryMinimizing, tryFinding, tryStops, tryStopped, tryBeside, tryFolds, tryText, tryLong, tryErrors, tryRoles, tryMissing, tryLooks];
+  const all = [tryMoves, tryPicture, tryEvents, tryFields, tryTexts, tryWaits, tryPlaying, tryAddresses, tryFiles, tryConditions, tryMinimizing, tryFinding, tryStops, tryStopped, tryBeside, tryFolds, tryUnseen, tryText, tryLong, tryErrors, tryRoles, tryMissing, tryLooks];
   await open("");
   const finds = await browser.run(`!document.getElementById("find").hidden`);
   const left = finds ? [] : [tryFinding, tryStops, tryStopped];

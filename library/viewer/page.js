@@ -39,7 +39,7 @@ function showTrace(kept) {
   showConditionSoon();
   showSearches();
   showBeside();
-  if (library.run) showMoment();
+  if (library.run) showMoment(kept === 0);
   else showMoves();
 }
 
@@ -49,7 +49,7 @@ function showTrace(kept) {
  *  is laid out. */
 const showPlace = () => showPicked(Math.min(at, view.run.count) - 1);
 
-function showMoment() {
+function showMoment(isOther) {
   const pool = library.poolNumbers();
   markRow(list, at);
   if (kept !== null) markRow(besideList, at);
@@ -58,7 +58,7 @@ function showMoment() {
   showPool(pool);
   showFiles(pool.files);
   showBeginTasks(pool.tasks);
-  showTasks();
+  showTasks(isOther);
   showResize(pool);
   later();
 }
@@ -205,6 +205,7 @@ function listenToPage() {
   document.addEventListener("keydown", (event) => event.key === "Escape" && !$("help").hidden && showHelp(false));
   // (a button that is off isn't disabled, so that the keyboard stays where it is)
   document.addEventListener("click", (event) => {
+    freshen(event.target);
     if (!event.target.closest('[aria-disabled="true"]')) return;
     event.preventDefault();
     event.stopImmediatePropagation();
@@ -242,6 +243,7 @@ async function begins() {
     stop();
     go(Math.min(place, trace.count));
   });
+  new IntersectionObserver(noteTasks, { rootMargin: NEAR }).observe($("tasks-part"));
   firstPicked = -1;
   Object.assign(hooks, { picks: (place) => { stop(); go(place + 1); } });
   for (const it of [listenToPicture, listenToMoves, listenToForms, listenToTexts, listenToFiles, listenToBeside, listenToAsking, listenToFinding, listenToPage]) it();

@@ -5,6 +5,9 @@ const FEW_TASKS = 6;
 
 /** Each fold of tasks that are alike, by what they are alike by. */
 const folds = new Map();
+/** Whether any of the tasks is in sight, and whether cards and folds are those of the shown moment. */
+let areInSight = true;
+let areLaid = true;
 
 /** All tasks of the pool, by their numbers. */
 function allTasks() {
@@ -55,7 +58,7 @@ function foldedOf(tasks) {
 
 function foldOf() {
   const parts = { summary: element("summary"), inside: element("div", { className: "tasks" }), list: [] };
-  parts.root = element("details", { className: "fold", ontoggle: () => library.run && showTasks() }, parts.summary, parts.inside);
+  parts.root = element("details", { className: "fold", ontoggle: () => library.run && showTasks(true) }, parts.summary, parts.inside);
   return parts;
 }
 
@@ -92,21 +95,44 @@ function keepKeyboard(had, task) {
   else fold?.summary.focus({ preventScroll: true });
 }
 
-function showTasks(tasks = allTasks()) {
+/** Puts the cards and the folds of the shown moment into their places. */
+function layTasks() {
   const had = document.activeElement;
   const task = Number(had?.closest(".task")?.dataset.task ?? 0);
+  const { tasks } = standing;
   const groups = foldedOf(tasks);
   const folded = new Set([...groups.values()].flat());
-  standing = { tasks, heldBack: heldBackOf(tasks) };
   stale.clear();
+  areLaid = true;
   put($("tasks"), showCards([...tasks.keys()].filter((it) => !folded.has(it))));
   put($("folds"), [...groups].map(([key, list]) => showFold(key, list)));
   keepKeyboard(had, task);
+}
+
+/** All tasks are out of sight: they follow, since browsers take long for cards that come and go. */
+function leaveTasks() {
+  areLaid = false;
+  stale.clear();
+  for (const task of standing.tasks.keys()) if (cards.has(task)) stale.add(task);
+}
+
+/** Shows all tasks, at once where any may be in sight: of another trace the browser says only later where they stand. */
+function showTasks(isOther = false) {
+  const tasks = allTasks();
+  standing = { tasks, heldBack: heldBackOf(tasks) };
+  if (areInSight || isOther) layTasks();
+  else leaveTasks();
   followSoon();
   const behind = trace.lines.length - at - 1;
   $("replaces").hidden = behind === 0;
-  $("replaces").textContent = `A turn here replaces the ${plural(behind, "line")} behind this moment.`;
+  setText($("replaces"), `A turn here replaces the ${plural(behind, "line")} behind this moment.`);
   setOff($("chance"), turnsOf(tasks).length === 0);
+}
+
+/** Shows the tasks when they come into sight; as long as there is no run they are hidden, and may stand anywhere when there is one. */
+function noteTasks(entries) {
+  areInSight = entries.at(-1).isIntersecting || !library.run;
+  if (areInSight && !areLaid && library.run) layTasks();
 }
 
 // ---- turns
