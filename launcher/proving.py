@@ -22,8 +22,9 @@ ONE = Path(__file__).with_name("launch.py")
 SLACK = 15.0
 # what another job adds to the memory of the first, since it is a copy that shares most of it
 MORE_MEMORY = 0.5
-# of a proof that takes longer than is known, and doesn't say how far it is, the share that is taken to be done
-MOST_DONE = 0.85
+# of a proof that takes longer than is known, and doesn't say how far it is, the share that is taken to be done; and the share that is
+# done when its first function is
+MOST_DONE, READING = 0.85, 0.3
 # so many seconds of proofs that went as is known are put beside those of this build
 EXPECTED = 120.0
 FUNCTIONS = re.compile(r"^so far: (\d+) of (\d+) functions", re.M)
@@ -63,8 +64,12 @@ class Run:
 
     def done(self, pace: float) -> float:
         """The seconds that are done, of what is known: as the prover says, or by the clock."""
-        known = self.library.seconds
-        return max(known * self.share(), min((time.monotonic() - self.began) / pace, known * MOST_DONE))
+        known, clock, share = self.library.seconds, (time.monotonic() - self.began) / pace, self.share()
+        if not share:
+            return min(clock, known * MOST_DONE)
+        said = known * (READING + (1 - READING) * share)
+        # (the last functions of a first proof take longest)
+        return min(said, clock) if self.is_first else said
 
     def memory(self) -> float:
         return self.library.memory * (1 + MORE_MEMORY * (self.jobs - 1))
