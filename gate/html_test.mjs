@@ -191,6 +191,11 @@ for (const [name, tile] of view.tiles) {
 }
 expect("tiles of curves", view.tiles.size, 6);
 
+// the help names keys that there are: two of them are asked for elsewhere
+const ARROWS = { "&larr;": "ArrowLeft", "&rarr;": "ArrowRight", "&uarr;": "ArrowUp", "&darr;": "ArrowDown" };
+const helped = [...textOf("HELP").matchAll(/<kbd>(.*?)<\/kbd>/g)].map(([, key]) => ARROWS[key] ?? key.replace(" ", ""));
+expect("keys that the help names", helped.filter((it) => !Object.hasOwn(page.KEYS, it)), ["Esc", "?"]);
+
 const cut = readRun(LINES.slice(0, 5).join("\n").slice(0, -30));
 expect("data that are cut", [cut.count, cut.end], [3, null]);
 expect("data that are none", [readRun(""), readRun("{\n"), readRun("[]\n")], [null, null, null]);

@@ -13,7 +13,7 @@ pub(crate) const HELP: &str = r###"  <h2 id="help-title">The picture</h2>
   <dl class="keys">
     <dt><kbd>&larr;</kbd> <kbd>&rarr;</kbd></dt><dd>the event before, the next event</dd>
     <dt><kbd>&uarr;</kbd> <kbd>&darr;</kbd></dt><dd>the event before, the next event, of the same task</dd>
-    <dt><kbd>HtmlPage Up</kbd> <kbd>HtmlPage Down</kbd></dt><dd>a screen back, a screen on</dd>
+    <dt><kbd>Page Up</kbd> <kbd>Page Down</kbd></dt><dd>a screen back, a screen on</dd>
     <dt><kbd>Home</kbd> <kbd>End</kbd></dt><dd>the first event, the last event</dd>
     <dt><kbd>+</kbd> <kbd>-</kbd> <kbd>0</kbd></dt><dd>zoom in, out, to the whole run; also Ctrl with the wheel, or two fingers</dd>
     <dt><kbd>/</kbd></dt><dd>to the search field</dd>

@@ -27,6 +27,8 @@ const SHAPED = 5;
 const CURVED = 1;
 // how wide tiles are, how many are kept, and how far shapes reach into the next one
 const TILE = 512;
+// a lane of so many events is painted as fast as tiles for it are made
+const FEW_EVENTS = 1000;
 const MOST_TILES = 400;
 const TOUCH = 8;
 
@@ -373,18 +375,22 @@ function drawShared(view, lane) {
   for (const kind of MARKS) drawMarks(view, lane, kind, ABOVE);
 }
 
+const isTiled = (view, lane) => view.step < CURVED && lane.events.length > FEW_EVENTS;
+
 function drawLane(view, lane, top) {
   const left = Math.max(view.gutter, xOf(view, 0));
   box(view, view.colours.lane, left, top, Math.min(view.width, xOf(view, view.run.count)) - left, view.tall);
-  if (view.step < CURVED) drawTiles(view, lane.name, top - ABOVE, view.pitch, (part) => drawShared(part, lane));
-  else drawStays(view, lane, top);
+  if (isTiled(view, lane)) return drawTiles(view, lane.name, top - ABOVE, view.pitch, (part) => drawShared(part, lane));
+  drawStays(view, lane, top);
+  if (view.step < CURVED) drawHatch(view, lane, top);
+  return undefined;
 }
 
 function writeLane(view, lane, top) {
   if (view.step >= CURVED) writePhases(view, lane, top);
   writeCalls(view, lane, top);
   eachSpan(view, lane.waits, (place, left, right) => writeWait(view, lane, place, left, right, top));
-  if (view.step >= CURVED) for (const kind of MARKS) drawMarks(view, lane, kind, top);
+  if (!isTiled(view, lane)) for (const kind of MARKS) drawMarks(view, lane, kind, top);
 }
 
 /** Calls `paint` with each lane in sight, and where its boxes begin. */
