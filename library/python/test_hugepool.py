@@ -459,7 +459,9 @@ ENDLESS = {
 def test_an_interrupt_ends_a_search(search):
     script = f"script = open({str(EXAMPLES / '64-backends-one-segment.script')!r}).read()"
     trace = "trace = hugepool.format('pool 2000 1 16 1\\nbegin 1 alloc 0 0 2000\\nstep 1 until ended\\n')"
-    code = f"import hugepool; {script}; {trace}; print('begun', flush=True); {ENDLESS[search]}"
+    # (a shell has what it begins in the background ignore interrupts)
+    heeds = "import signal; signal.signal(signal.SIGINT, signal.default_int_handler)"
+    code = f"{heeds}; import hugepool; {script}; {trace}; print('begun', flush=True); {ENDLESS[search]}"
     how = {"cwd": Path(__file__).parent, "stdout": subprocess.PIPE, "stderr": subprocess.PIPE}
     with subprocess.Popen([sys.executable, "-c", code], **how) as ran:
         try:
